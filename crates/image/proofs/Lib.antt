@@ -1,0 +1,12 @@
+pub mod Wants
+pub mod Said
+pub mod Bodies
+pub mod Whole
+pub mod Heads
+pub mod Loop
+pub mod Puts
+pub mod Slots
+pub mod Parts
+pub mod Run
+pub mod Refusals
+pub mod Round
