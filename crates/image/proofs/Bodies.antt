@@ -27,7 +27,8 @@ use Rattle.words.specs.declared.word.Kind.the-variants as kinds
 use Rattle.words.specs.declared.word.Word.{Word}
 use Rattle.words.specs.declared.word.Word.the-variants as word
 use Rattle.words.specs.Format.{read, written, then as maybe}
-use Rattle.image.specs.Reading.{then, judged, wanted, place-of, exit-of, time-of, period-of, event-of, target-of, order-of, alternative-of, alternative-in, fresh, same, message-of, queued-of, flow-of, block-of, alternatives-of, second-of, third-of, rest-of, cut-of, body-of, body-size}
+use Rattle.words.specs.Exits.{same}
+use Rattle.image.specs.Reading.{then, judged, wanted, place-of, exit-of, time-of, period-of, event-of, target-of, order-of, alternative-of, alternative-in, fresh, message-of, queued-of, flow-of, block-of, alternatives-of, second-of, third-of, rest-of, cut-of, body-of, body-size}
 use Rattle.image.proofs.Wants.{goes, wants, goes-if, goes-or, may, Good, done-good, wants-good, may-good, wants-ok, refuted}
 
 abbrev pub event-wanted : ℕ → ℕ → List ℕ → ℕ → Result Body Fault

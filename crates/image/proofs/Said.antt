@@ -14,8 +14,9 @@ use Rattle.words.specs.declared.word.Word.{Word}
 use Rattle.words.specs.declared.word.Word.the-variants as word
 use Rattle.words.specs.Format.{read, written, then as maybe, Allowed, Allowed-exit, Allowed-order}
 use Rattle.words.proofs.Back.{reads-back, writes-back}
+use Rattle.words.specs.Exits.{same}
 use Rattle.image.specs.Nodes.{Differ}
-use Rattle.image.specs.Reading.{next-said, time-said, event-said, alternative-said, target-said, order-said, place-said, place-of, exit-of, time-of, period-of, event-of, target-of, order-of, alternative-of, same}
+use Rattle.image.specs.Reading.{next-said, time-said, event-said, alternative-said, target-said, order-said, place-said, place-of, exit-of, time-of, period-of, event-of, target-of, order-of, alternative-of}
 
 maybe-some : {A B : Type 0} (o : Option A) (f : A → Option B) (y : B) → maybe o f ≡ Some y → (x : A) × (o ≡ Some x) × (f x ≡ Some y)
 maybe-some None f y h = let z : _≡_ {A = ℕ} 0 1 = cc in absurd (omega arith)

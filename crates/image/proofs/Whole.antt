@@ -23,8 +23,9 @@ use Rattle.words.specs.declared.word.Kind.{Kind}
 use Rattle.words.specs.declared.word.Kind.the-variants as kinds
 use Rattle.words.specs.declared.word.Word.the-variants as word
 use Rattle.words.specs.Format.{written, Allowed-exit}
+use Rattle.words.specs.Exits.{same}
 use Rattle.image.specs.Nodes.{kind-of, body-words, alternative-words, Differ, Allowed-body, Allowed-alternatives}
-use Rattle.image.specs.Reading.{same, place-of, exit-of, time-of, period-of, event-of, target-of, order-of, alternative-of, body-of, body-size, alternatives-size}
+use Rattle.image.specs.Reading.{place-of, exit-of, time-of, period-of, event-of, target-of, order-of, alternative-of, body-of, body-size, alternatives-size}
 use Rattle.image.proofs.Said.{Is, exit-is, place-is, time-is, period-is, event-is, target-is, order-is, alternative-is, exit-back, place-back, time-back, period-back, event-back, target-back, order-back, alternative-back, same-false, differ-same}
 use Rattle.image.proofs.Wants.{goes, wants, may, wants-ok, wants-some, may-ok, may-none, may-some, Closed}
 use Rattle.image.proofs.Bodies.{message, message-offset, event-wanted, flow, flow-offset, target-wanted, order-wanted, block, period-wanted, used, first, second, third, reader, body-link}

@@ -24,6 +24,7 @@ use Rattle.words.specs.declared.word.Kind.{Kind}
 use Rattle.words.specs.declared.word.Kind.the-variants as kinds
 use Rattle.words.specs.declared.word.Word.{Word}
 use Rattle.words.specs.declared.word.Word.the-variants as word
+use Rattle.words.specs.Exits.{same}
 use Rattle.words.specs.Format.{read, then as maybe}
 use Rattle.image.specs.declared.places.Image.{Image}
 use Rattle.image.specs.declared.reader.Placed.{Placed}
@@ -156,12 +157,6 @@ abbrev pub flow-of : ℕ → ℕ → List ℕ → ℕ → Result Body Fault
 flow-of next time rest at =
     then (judged place-of next at) (λ n. then (judged time-of time (at + 1)) (λ t. then (queued-of rest (at + 1 + 1)) (λ q.
     Ok (body.Flow n t (q .0) (q .1)))))
-
-abbrev pub same : Exit → Exit → Bool
-same exit.End exit.End = true
-same exit.End (exit.Place n) = false
-same (exit.Place m) exit.End = false
-same (exit.Place m) (exit.Place n) = eqb m n
 
 -- the alternative that is word number i of ws, if there is one
 abbrev pub alternative-in : List ℕ → ℕ → Option Exit

@@ -5,7 +5,7 @@ ghost use Prim.Native.Nat.{ℕ, _+_, _-_, _^_, _<_, _≤_};
 ghost use lib.Dec.{ltb};
 ghost use lib.ListN.{length, getD, drop};
 ghost use Rattle.std.specs.Vec.{made};
-ghost use Rattle.image.specs.Reading.{judged, place-of, exit-of, time-of, period-of, event-of, target-of, order-of, alternative-of, alternative-in, fresh, same, message-of, queued-of, flow-of, block-of, alternatives-of, rest-of, cut-of, body-of, body-size, alternatives-size, end-of, node-of, part-size, above, read-image};
+ghost use Rattle.image.specs.Reading.{judged, place-of, exit-of, time-of, period-of, event-of, target-of, order-of, alternative-of, alternative-in, fresh, message-of, queued-of, flow-of, block-of, alternatives-of, rest-of, cut-of, body-of, body-size, alternatives-size, end-of, node-of, part-size, above, read-image};
 ghost use Rattle.image.specs.Laws.{Accepts, Refuses, Writes-back};
 use crate::places::Image;
 use words::Alternatives;
@@ -107,16 +107,6 @@ fn alternative_of(w: u32) -> Option<Exit>
     }
 }
 
-fn same(a: Exit, b: Exit) -> bool
-    ensures { λ r. ⌜ r ≡ same a b ⌝ }
-{
-    match (a, b) {
-        (Exit::End, Exit::End) => true,
-        (Exit::Place(m), Exit::Place(n)) => m == n,
-        _ => false,
-    }
-}
-
 /// The alternative that is word `i` of `words`, if there is one; it must be none of three exits.
 fn fresh(
     words: &[u32],
@@ -130,7 +120,7 @@ fn fresh(
         return Ok(None);
     }
     match alternative_of(words[i]) {
-        Some(x) if same(x, known.0) || same(x, known.1) || same(x, known.2) => Err(Fault::BadWord(
+        Some(x) if x.is(known.0) || x.is(known.1) || x.is(known.2) => Err(Fault::BadWord(
             at,
         )),
         found => Ok(found),

@@ -1,12 +1,27 @@
 //! The nodes of a programme and their parts.
+ghost use mathlib.Core.Path.{_≡_};
+ghost use Rattle.words.specs.Exits.{same};
 
 /// Where a way leads: to a place, or out of the programme.
-#[derive(Clone, Copy, PartialEq, Eq)]
+#[derive(Clone, Copy)]
 pub enum Exit {
     /// The lane has come to the end of the programme.
     End,
     /// The place with this number.
     Place(u16),
+}
+
+impl Exit {
+    /// Whether two ways lead to the same place, or both to the end.
+    pub fn is(self, other: Exit) -> bool
+        ensures { λ r. ⌜ r ≡ same self other ⌝ }
+    {
+        match (self, other) {
+            (Exit::End, Exit::End) => true,
+            (Exit::Place(m), Exit::Place(n)) => m == n,
+            _ => false,
+        }
+    }
 }
 
 /// The ways on from a block beside its next: at most three.
