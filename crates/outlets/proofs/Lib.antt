@@ -1,0 +1,5 @@
+pub mod Steps
+pub mod Histories
+pub mod Counts
+pub mod Listed
+pub mod Dues

@@ -1,0 +1,6 @@
+-- A row with its count in range, as it lies in a table.
+use Rattle.rows.specs.declared.plain.PlainRow.{PlainRow}
+use Rattle.rows.specs.declared.row.Row.{Row}
+
+abbrev pub plain-of : Row → PlainRow
+plain-of r = record { count = r .count; entries = r .entries }

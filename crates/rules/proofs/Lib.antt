@@ -1,0 +1,6 @@
+pub mod Chains
+pub mod Keep
+pub mod Lines
+pub mod Marks
+pub mod Sweeps
+pub mod Walk

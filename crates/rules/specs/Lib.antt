@@ -1,0 +1,4 @@
+pub mod Chain
+pub mod Found
+pub mod Laws
+pub mod Steps

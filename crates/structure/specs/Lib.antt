@@ -1,0 +1,5 @@
+pub mod Nodes
+pub mod Structure
+pub mod Lowest
+pub mod Endings
+pub mod Flaws
