@@ -7,7 +7,7 @@ use mathlib.Core.List.{List, [], _∷_, _++_, map}
 use Prim.Native.Nat.{ℕ, zero, suc, _+_, _-_, _<_, _≤_}
 use borrow.Author.Needs.{needs}
 use lib.Dec.{eqb}
-use lib.ListN.{length, getD, set, take, drop, replicate, List·getD-map}
+use lib.ListN.{length, getD, set, drop, replicate, List·getD-map}
 use lib.Seq.{getD-set-other, getD-take, length-take-le, ext-getD}
 use Rattle.std.proofs.shelf.Tests.{cases-lt}
 use Rattle.std.proofs.shelf.Lists.{take-more-set, take-map}

@@ -1,12 +1,10 @@
 -- Lists of four, one of which is written or leaves.
 use native.Mathlib.Omega.{arith}
-use mathlib.Core.Path.{_≡_, refl, sym, ap, _∙_}
-use mathlib.Core.Logic.{_≢_}
+use mathlib.Core.Path.{_≡_, refl}
 use mathlib.Core.List.{List, [], _∷_, _++_, map}
 use Prim.Native.Nat.{ℕ, zero, suc, _+_, _-_, _<_, _≤_}
-use native.Mathlib.Nat.{not-suc-le-zero}
-use lib.ListN.{length, getD, set, take, drop, List·getD-map}
-use lib.Seq.{take-append-le, getD-set-other}
+use lib.ListN.{length, getD, take, drop}
+use lib.Seq.{take-append-le}
 
 -- four elements, each under f
 pub four-map : {X : Type 0} (f : X → X) (d : X) (xs : List X) → length xs ≡ 4

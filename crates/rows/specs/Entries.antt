@@ -7,13 +7,12 @@ use Rattle.words.specs.declared.node.Entry.{Entry}
 use Rattle.words.specs.declared.node.Entry.the-variants.{Pass, Order}
 use Rattle.words.specs.declared.node.Exit.{Exit}
 use Rattle.words.specs.declared.node.Exit.the-variants.{End, Place}
-use Rattle.words.specs.declared.node.Order as order
-use Rattle.words.specs.declared.node.Pass as pass
 
 -- what an unused slot holds: a pass that is good for no visit
 abbrev pub blank : Entry
 blank = Pass (record { repeats = 0; urgent = false })
 
+-- how many visits an entry is still good for
 abbrev pub repeats-of : Entry → ℕ
 repeats-of (Pass p) = p .repeats
 repeats-of (Order o) = o .repeats

@@ -5,6 +5,7 @@ use Rattle.std.specs.declared.option.Option.the-variants.{None, Some}
 use Rattle.words.specs.declared.node.Entry.{Entry}
 use Rattle.rows.specs.Entries.{spent-entry}
 
+-- the oldest, if any waits
 abbrev pub oldest : List Entry → Option Entry
 oldest [] = None
 oldest (e ∷ es) = Some e

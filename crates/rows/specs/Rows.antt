@@ -4,7 +4,7 @@ use mathlib.Core.Bool.{Bool, cond}
 use mathlib.Core.List.{List, [], _∷_, map}
 use Prim.Native.Nat.{ℕ, _+_, _-_, _≤_}
 use lib.Dec.{eqb}
-use lib.ListN.{length, getD, set, take, drop, replicate}
+use lib.ListN.{length, getD, set, take, replicate}
 use Rattle.std.specs.declared.option.Option.{Option}
 use Rattle.std.specs.declared.option.Option.the-variants.{None, Some}
 use Rattle.words.specs.declared.node.Entry.{Entry}
@@ -15,6 +15,7 @@ use Rattle.rows.specs.Entries.{blank, spent-entry, forgotten-entry}
 abbrev pub waiting : PlainRow → List Entry
 waiting p = take (p .count) (p .entries)
 
+-- what slot k holds
 abbrev pub slot : PlainRow → ℕ → Entry
 slot p k = getD (p .entries) k blank
 
@@ -27,6 +28,7 @@ abbrev pub Told-by-waiting : Type 0
 Told-by-waiting = (p q : PlainRow) → length (p .entries) ≡ length (q .entries) → p .count ≤ length (p .entries) → q .count ≤ length (q .entries)
     → Canonical p → Canonical q → waiting p ≡ waiting q → p ≡ q
 
+-- the row in which nothing waits
 abbrev pub empty-row : PlainRow
 empty-row = record { count = 0; entries = replicate 4 blank }
 
@@ -38,6 +40,7 @@ full p = eqb (p .count) 4
 abbrev pub vacant : PlainRow → Bool
 vacant p = eqb (p .count) 0
 
+-- the oldest entry, if any waits
 abbrev pub first-of : PlainRow → Option Entry
 first-of p = cond (vacant p) None (Some (slot p 0))
 

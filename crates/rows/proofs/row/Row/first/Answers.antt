@@ -1,12 +1,11 @@
 use borrow.Author.Needs.{needs}
 use Prim.Native.Nat.{_≤_}
 use mathlib.Core.Path.{_≡_, _∙_}
-use lib.ListN.{length}
+use lib.ListN.{length, getD}
 use Rattle.rows.specs.Checked.{plain-of}
 use Rattle.rows.specs.Rows.{first-of}
 use Rattle.std.specs.declared.option.Option.the-variants.{Some}
 use Rattle.rows.specs.Entries.{blank}
-use lib.ListN.{getD}
 use Rattle.rows.proofs.Changes.{first-waiting}
 use Rattle.rows.proofs.row.Row.first.Needs as need
 
