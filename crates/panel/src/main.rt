@@ -1,15 +1,12 @@
 //! The panel: judges an image from the standard input, and writes the line that tells how it was judged.
-ghost use mathlib.Core.Path.{_≡_};
 ghost use Prim.Native.Nat.{ℕ, _≤_};
 ghost use lib.ListN.{length};
-ghost use Rattle.image.specs.Reading.{read-image};
-ghost use Rattle.panel.specs.Shown.{nodes-of, shown};
-ghost use Rattle.readout.specs.Lines.{held};
+ghost use Rattle.panel.specs.Shown.{Shown};
 ghost use Rattle.std.specs.Vec.{made};
 use readout::Line;
 use std::io;
 use std::io::Read;
-use words::Fault;
+use table::Table;
 
 /// How many words of an image are judged at most.
 const WORDS: usize = 4096;
@@ -32,20 +29,14 @@ fn fill(input: &mut impl Read, bytes: &mut [u8]) -> io::Result<usize>
     Ok(filled)
 }
 
-/// How many nodes the image has, or what is wrong with it.
-fn nodes(words: &[u32]) -> Result<usize, Fault>
-    ensures { λ r. ⌜ r ≡ nodes-of (read-image (now (words .entry))) ⌝ }
-{
-    Ok(image::read(words)?.nodes)
-}
-
-/// The line for the image that the bytes make.
+/// The line for the image that the bytes make, as a cleared table judges it.
 fn judged(bytes: &[u8]) -> Line
-    ensures { λ r. ⌜ held r ≡ shown (now (bytes .entry)) ⌝ }
+    ensures { λ r. ⌜ Shown (now (bytes .entry)) r ⌝ }
 {
     let mut words = [0; WORDS];
     let count = readout::pack(bytes, &mut words);
-    Line::judged(nodes(&words[0..count]))
+    let mut table = Table::cleared();
+    Line::judged(table.load(&words[0..count]))
 }
 
 fn main(rt: LibcRuntime) -> io::Result<()> {

@@ -2,3 +2,4 @@ pub mod Answers
 pub mod Calls
 pub mod Numbers
 pub mod Parts
+pub mod Texts

@@ -3,9 +3,15 @@ ghost use mathlib.Core.Path.{_≡_};
 ghost use Rattle.std.specs.declared.option.Option.the-variants.{Some};
 ghost use Rattle.readout.specs.Lines.{refusal-text};
 ghost use Rattle.rehearse.specs.Answers.{fault-refusal, short-refusal, told, text-of};
+use crate::texts::RowText;
+use crate::texts::RowTextDisplay;
+use crate::texts::StateText;
+use crate::texts::StateTextDisplay;
+use lanes::Lane;
 use readout::layer_text;
 use std::fmt;
-use words::Fault;
+use table::Fault;
+use table::Rows;
 use words::Layer;
 
 /// Why a call was refused, as the panel tells it.
@@ -17,7 +23,7 @@ pub struct Refusal {
 }
 
 impl Refusal {
-    /// The image has a fault.
+    /// The image is not loaded.
     pub fn fault(fault: Fault) -> Refusal
         ensures { λ r. ⌜ r ≡ fault-refusal fault ⌝ }
     {
@@ -62,6 +68,10 @@ pub enum Answer {
     Wrote(Vec<u32>),
     /// The image was not written.
     NotWritten(Refusal),
+    /// The lane with the number.
+    Lane(u32, Lane),
+    /// The rows of the block at the place.
+    Rows(u32, Rows),
 }
 
 pub impl fmt::Display for Answer as AnswerDisplay {
@@ -80,6 +90,16 @@ pub impl fmt::Display for Answer as AnswerDisplay {
                 Ok(())
             }
             Answer::NotWritten(refusal) => write!(f, "write {refusal}"),
+            Answer::Lane(number, lane) => {
+                let state = StateText { state: lane.state };
+                let sent = lane.sent;
+                write!(f, "lane {number} {state} {sent}")
+            }
+            Answer::Rows(block, rows) => {
+                let urgent = RowText { row: rows.urgent };
+                let plain = RowText { row: rows.plain };
+                write!(f, "row {block} URGENT{urgent} PLAIN{plain}")
+            }
         }
     }
 }

@@ -3,7 +3,7 @@ ghost use mathlib.Core.Path.{_≡_};
 ghost use Rattle.std.specs.Vec.{made};
 ghost use Rattle.std.specs.shelf.Text.{sameBytes};
 ghost use Rattle.words.specs.Format.{mapped};
-ghost use Rattle.rehearse.specs.Calls.{said, remark, words-in, room-in, call-in, load as load-said, write as write-said};
+ghost use Rattle.rehearse.specs.Calls.{said, remark, words-in, argument-in, below-in, call-in, load as load-said, write as write-said, lane as lane-said, row as row-said};
 ghost use Rattle.rehearse.specs.Parts.{parts-of};
 use crate::number::decimal;
 use crate::number::hexadecimal;
@@ -12,6 +12,12 @@ use crate::parts::PartsIterator;
 use std::alloc::AllocError;
 use std::alloc::Global;
 
+/// How many lanes there are.
+const LANES: u32 = 8;
+
+/// How many places a table has.
+const PLACES: u32 = 512;
+
 /// A call.
 #[derive(Drop)]
 pub enum Call {
@@ -19,6 +25,10 @@ pub enum Call {
     Load(Vec<u32>),
     /// Writes the image of what is held into a memory of so many words.
     Write(u32),
+    /// Asks what the lane with the number is doing.
+    Lane(u32),
+    /// Asks what waits in the rows of the block at the place.
+    Row(u32),
 }
 
 /// Whether the line is no call, but empty or a remark.
@@ -50,14 +60,41 @@ fn load(heap: Global, parts: Parts) -> Result<Option<Call>, AllocError>
     Ok(Some(Call::Load(words)))
 }
 
-fn write(mut parts: Parts) -> Option<Call>
-    ensures { λ r. ⌜ mapped said r ≡ mapped write-said (room-in (parts-of (parts .entry .rest .now))) ⌝ }
+/// The one part that is left, as a number.
+fn argument(mut parts: Parts) -> Option<u32>
+    ensures { λ r. ⌜ r ≡ argument-in (parts-of (parts .entry .rest .now)) ⌝ }
 {
-    let room = decimal(parts.next()?)?;
+    let number = decimal(parts.next()?)?;
     match parts.next() {
-        None => Some(Call::Write(room)),
+        None => Some(number),
         Some(_) => None,
     }
+}
+
+/// The one part that is left, as a number below the limit.
+fn below(parts: Parts, limit: u32) -> Option<u32>
+    ensures { λ r. ⌜ r ≡ below-in limit (parts-of (parts .entry .rest .now)) ⌝ }
+{
+    let number = argument(parts)?;
+    if number < limit { Some(number) } else { None }
+}
+
+fn write(parts: Parts) -> Option<Call>
+    ensures { λ r. ⌜ mapped said r ≡ mapped write-said (argument-in (parts-of (parts .entry .rest .now))) ⌝ }
+{
+    Some(Call::Write(argument(parts)?))
+}
+
+fn lane(parts: Parts) -> Option<Call>
+    ensures { λ r. ⌜ mapped said r ≡ mapped lane-said (below-in 8 (parts-of (parts .entry .rest .now))) ⌝ }
+{
+    Some(Call::Lane(below(parts, LANES)?))
+}
+
+fn row(parts: Parts) -> Option<Call>
+    ensures { λ r. ⌜ mapped said r ≡ mapped row-said (below-in 512 (parts-of (parts .entry .rest .now))) ⌝ }
+{
+    Some(Call::Row(below(parts, PLACES)?))
 }
 
 /// The call on a line, or nothing where the line gives none.
@@ -72,6 +109,10 @@ pub fn parse(heap: Global, line: &[u8]) -> Result<Option<Call>, AllocError>
         load(heap, parts)
     } else if is_same(name, b"write") {
         Ok(write(parts))
+    } else if is_same(name, b"lane") {
+        Ok(lane(parts))
+    } else if is_same(name, b"row") {
+        Ok(row(parts))
     } else {
         Ok(None)
     }

@@ -4,6 +4,7 @@ mod call;
 mod number;
 mod parts;
 mod player;
+mod texts;
 
 use answer::AnswerDisplay;
 use call::is_remark;

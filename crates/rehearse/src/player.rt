@@ -1,28 +1,56 @@
-//! The player of a script: what it holds between calls.
+//! The player of a script: the table that it holds between calls.
 ghost use mathlib.Core.Path.{_≡_};
-ghost use lib.ListN.{replicate};
+ghost use Prim.Native.Nat.{_≤_, min};
+ghost use lib.ListN.{length};
+ghost use Rattle.image.specs.Nodes.{image-words};
 ghost use Rattle.std.specs.Vec.{made};
-ghost use Rattle.std.specs.declared.option.Option.the-variants.{None};
-ghost use Rattle.image.specs.Reading.{read-image};
-ghost use Rattle.rehearse.specs.Answers.{told, load-told, load-leaves, write-told, answer-to, held-after};
-ghost use Rattle.rehearse.specs.Calls.{said};
+ghost use Rattle.table.specs.Tables.{cleared};
+ghost use Rattle.rehearse.specs.Answers.{told, write-told, lane-told, rows-at, rows-told, Plays, Played};
+ghost use Rattle.rehearse.specs.Calls.{said, load as load-said};
 use crate::answer::Answer;
 use crate::answer::Refusal;
 use crate::call::Call;
+use lanes::Lane;
+use lanes::LaneState;
 use std::alloc::AllocError;
 use std::alloc::Global;
+use table::Rows;
+use table::Table;
 use words::Node;
 
-/// How many words an image has at most.
-const IMAGE_WORDS: usize = 3073;
+/// How many words a node has at most.
+const NODE_WORDS: usize = 6;
 
-/// Writes the image of the places into a memory of so many words.
-fn write(heap: Global, places: &[Option<Node>; 512], room: usize) -> Result<Answer, AllocError>
-    ensures { λ r. ⌜ made r (λ answer. told answer ≡ write-told (now (places .entry)) room) ⌝ }
+/// A lane that walks nowhere and has sent nothing.
+const IDLE: Lane = Lane {
+    state: LaneState::Idle,
+    sent: 0,
+};
+
+/// Loads the image of the words into the table.
+fn load(table: &mut Table, words: &[u32]) -> Answer
+    ensures { λ r. ⌜ Plays (now (table .entry)) (load-said (now (words .entry))) (told r) (now (table .exit)) ⌝ }
 {
-    // More memory than the largest image needs changes nothing.
-    let mut words = vec![in heap; 0; room.min(IMAGE_WORDS)]?;
-    match image::write(places, words.as_mut_slice()) {
+    match table.load(words) {
+        Ok(nodes) => Answer::Loaded(nodes),
+        Err(fault) => Answer::NotLoaded(Refusal::fault(fault)),
+    }
+}
+
+/// How many words of the room an image can fill: more memory than the largest one needs changes nothing.
+fn useful(nodes: &[Option<Node>; 512], room: usize) -> usize
+    ensures value { λ r. ⌜ r ≡ min room 3073 ⌝ }
+    ensures few { λ _. ⌜ length (image-words (now (nodes .entry))) ≤ 3073 ⌝ }
+{
+    room.min(NODE_WORDS * nodes.len() + 1)
+}
+
+/// Writes the image of the table into a memory of so many words.
+fn write(heap: Global, table: &Table, room: usize) -> Result<Answer, AllocError>
+    ensures { λ r. ⌜ made r (λ answer. told answer ≡ write-told (now (table .entry) .nodes) room) ⌝ }
+{
+    let mut words = vec![in heap; 0; useful(&table.nodes, room)]?;
+    match table.write(words.as_mut_slice()) {
         Ok(count) => {
             words.truncate(count);
             Ok(Answer::Wrote(words))
@@ -31,44 +59,51 @@ fn write(heap: Global, places: &[Option<Node>; 512], room: usize) -> Result<Answ
     }
 }
 
-/// What is held: the node of each place.
+/// The lane with the number. One above 7, which no script can name, would be told as idle.
+fn lane(table: &Table, number: u32) -> Answer
+    ensures { λ r. ⌜ told r ≡ lane-told (now (table .entry) .lanes) number ⌝ }
+{
+    let lane = table.lanes.lane(number as usize).unwrap_or(IDLE);
+    Answer::Lane(number, lane)
+}
+
+/// The rows of the block. A place above 511, which no script can name, would be told as one where nothing waits.
+fn rows(table: &Table, block: u32) -> Answer
+    ensures { λ r. ⌜ told r ≡ rows-told block (rows-at (now (table .entry)) block) ⌝ }
+{
+    let rows = table
+        .rows
+        .get(block as usize)
+        .copied()
+        .unwrap_or(Rows::empty());
+    Answer::Rows(block, rows)
+}
+
+/// What is held: a table.
 #[derive(Drop)]
 pub struct Player {
-    places: [Option<Node>; 512],
+    table: Table,
 }
 
 impl Player {
-    /// Nothing is held yet.
+    /// Nothing is loaded yet.
     pub fn new() -> Player
-        ensures { λ r. ⌜ r .places ≡ replicate 512 None ⌝ }
+        ensures { λ r. ⌜ r .table ≡ cleared ⌝ }
     {
         Player {
-            places: [None; 512],
+            table: Table::cleared(),
         }
     }
 
     /// Makes a call.
     pub fn play(&mut self, heap: Global, call: Call) -> Result<Answer, AllocError>
-        ensures value { λ r. ⌜ made r (λ answer. told answer ≡ answer-to (now (self .entry) .places) (said call)) ⌝ }
-        ensures after { λ _. ⌜ now (self .exit) .places ≡ held-after (now (self .entry) .places) (said call) ⌝ }
+        ensures { λ r. ⌜ Played (now (self .entry) .table) (said call) r (now (self .exit) .table) ⌝ }
     {
         match call {
-            Call::Load(words) => Ok(self.load(words.as_slice())),
-            Call::Write(room) => write(heap, &self.places, room as usize),
-        }
-    }
-
-    fn load(&mut self, words: &[u32]) -> Answer
-        ensures value { λ r. ⌜ told r ≡ load-told (read-image (now (words .entry))) ⌝ }
-        ensures after { λ _. ⌜ now (self .exit) .places ≡ load-leaves (read-image (now (words .entry))) (now (self .entry) .places) ⌝ }
-    {
-        match image::read(words) {
-            Ok(image) => {
-                let places = image.places;
-                self.places = places;
-                Answer::Loaded(image.nodes)
-            }
-            Err(fault) => Answer::NotLoaded(Refusal::fault(fault)),
+            Call::Load(words) => Ok(load(&mut self.table, words.as_slice())),
+            Call::Write(room) => write(heap, &self.table, room as usize),
+            Call::Lane(number) => Ok(lane(&self.table, number)),
+            Call::Row(block) => Ok(rows(&self.table, block)),
         }
     }
 }

@@ -1,4 +1,4 @@
-use mathlib.Core.Path.{_≡_, sym, ap, _∙_}
+use mathlib.Core.Path.{_≡_, sym, ap, subst, _∙_}
 use mathlib.Core.List.{List, _++_}
 use mathlib.Core.Logic.{⊎-elim}
 use Prim.Native.Nat.{ℕ, _-_, _≤_, _<_, min}
@@ -6,11 +6,11 @@ use native.Mathlib.Omega.{arith}
 use lib.ListN.{length, take, drop}
 use Rattle.std.proofs.shelf.Lists.{take-at, take-all, length-take-le}
 use Rattle.std.proofs.shelf.Tests.{cases-lt}
-use Rattle.image.specs.Reading.{read-image}
+use Rattle.table.specs.Tables.{cleared}
+use Rattle.table.specs.Loading.{Loads}
 use Rattle.readout.specs.Bytes.{packed}
-use Rattle.readout.specs.Lines.{panel-line}
 use Rattle.readout.proofs.Packing.{length-packed}
-use Rattle.panel.specs.Shown.{nodes-of}
+use Rattle.panel.specs.Shown.{Shown}
 use Rattle.panel.proofs.judged.Needs as need
 
 -- the part of the memory that was written is the front of what was to be written
@@ -28,4 +28,9 @@ pub returns : need.returns
 returns c =
     let bytes = c .args .bytes .now in
     let words = front (packed bytes) _ _ (c .pack-count .result) 4096 (c .pack-count .ensures .count ∙ ap (λ n. min n 4096) (sym (length-packed bytes))) (c .pack-count .ensures .after) in
-    c .judged .ensures ∙ ap panel-line (c .nodes .ensures ∙ ap (λ ws. nodes-of (read-image ws)) words)
+    record {
+      answer = c .load .result;
+      after = c .load .last .self;
+      loads = subst (λ ws. Loads cleared ws (c .load .result) (c .load .last .self)) words (subst (λ t. Loads t (take (c .pack-count .result - 0) (c .pack-count .last .words)) (c .load .result) (c .load .last .self)) (c .cleared-table .ensures .value) (c .load .ensures .exact));
+      tells = c .judged .ensures;
+    }
