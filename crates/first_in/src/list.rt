@@ -2,7 +2,7 @@
 ghost use mathlib.Core.Path.{_≡_};
 ghost use mathlib.Core.Bool.{true, false, cond};
 ghost use mathlib.Core.List.{List, [], _∷_, _++_};
-ghost use Prim.Native.Nat.{ℕ, _<_};
+ghost use Prim.Native.Nat.{_<_};
 ghost use lib.ListN.{length, drop};
 ghost use lib.Dec.{ltb};
 ghost use denote.Ref.{name};
@@ -11,6 +11,8 @@ ghost use Rattle.first_in.specs.Items.{items, room, oldest, Gathered};
 ghost use Rattle.first_in.specs.Places.{place-of};
 
 /// A list of at most as many items as the lent slots; the item that came in first is handed out first.
+// The clauses `named` say that a list goes on lending the slots that it was made over: by them the caller knows what
+// the slots hold in the end.
 #[derive(Drop)]
 pub struct FirstIn<'a, T> {
     slots: &'a mut [T],

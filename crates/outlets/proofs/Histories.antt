@@ -10,7 +10,7 @@ use Rattle.outlets.specs.declared.message.Message.{Message}
 use Rattle.outlets.specs.declared.request.Request.{Request}
 use Rattle.outlets.specs.declared.request.Reply.{Reply}
 use Rattle.outlets.specs.Meaning.{Step}
-use Rattle.outlets.specs.Balance.{Run, done, more, Balanced}
+use Rattle.outlets.specs.Balance.{Run, done, more, Balanced, Continues}
 use Rattle.outlets.proofs.Steps.{step-balance}
 
 module _ {O : Type 0} (waits : O → Message → ℕ) (total capacity : O → ℕ) where
@@ -25,6 +25,12 @@ module _ {O : Type 0} (waits : O → Message → ℕ) (total capacity : O → �
   run-push o m n requests replies request reply (done o′) s = more o n n request [] reply [] s (done n)
   run-push o m n requests replies request reply (more o′ p m′ first rest said others t r) s =
       more o p n first (rest ++ request ∷ []) said (others ++ reply ∷ []) t (run-push p m n rest others request reply r s)
+
+  -- what one call adds
+  pub continues : (m n : O) (request : Request) (reply : Reply) → Step waits total capacity m request reply n → Continues waits total capacity m request reply n
+  continues m n request reply s first asked said r =
+      let longer = run-push first m n asked said request reply r s in
+      (longer, run-balanced first n (asked ++ request ∷ []) (said ++ reply ∷ []) longer)
 
   -- the request at i of those in memory, with its reply written at i
   pub run-next : (o m n : O) (requests : List Request) (replies : List Reply) (i : ℕ) (d : Request) (reply : Reply) → i < length requests → i < length replies → Run waits total capacity o (take i requests) (take i replies) m → Step waits total capacity m (getD requests i d) reply n → Run waits total capacity o (take (i + 1) requests) (take (i + 1) (set replies i reply)) n

@@ -1,6 +1,5 @@
 -- Laws of the meaning: what a step comes to for each message.
 use mathlib.Core.Path.{_≡_}
-use mathlib.Core.List.{List, [], _∷_}
 use Prim.Native.Nat.{ℕ, _+_}
 use native.Mathlib.Omega.{arith}
 use Rattle.outlets.specs.declared.message.Message.{Message}

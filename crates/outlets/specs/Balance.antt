@@ -1,6 +1,6 @@
 -- What requests and their replies, one after another, come to for each message.
 use mathlib.Core.Path.{_≡_}
-use mathlib.Core.List.{List, [], _∷_}
+use mathlib.Core.List.{List, [], _∷_, _++_}
 use Prim.Native.Nat.{ℕ, _+_}
 use Rattle.outlets.specs.declared.message.Message.{Message}
 use Rattle.outlets.specs.declared.request.Request.{Request}
@@ -45,3 +45,10 @@ module _ {O : Type 0} (waits : O → Message → ℕ) (total capacity : O → �
   pub data Run : O → List Request → List Reply → O → Type 0 where
     done : (o : O) → Run o [] [] o
     more : (o m n : O) (request : Request) (requests : List Request) (reply : Reply) (replies : List Reply) → Step waits total capacity o request reply m → Run m requests replies n → Run o (request ∷ requests) (reply ∷ replies) n
+
+  -- whatever was asked before, it goes on by this request and its reply, and is balanced
+  abbrev pub Continues : O → Request → Reply → O → Type 0
+  Continues o request reply n =
+      (first : O) (asked : List Request) (said : List Reply) →
+      Run first asked said o →
+      Run first (asked ++ request ∷ []) (said ++ reply ∷ []) n × Balanced waits first (asked ++ request ∷ []) (said ++ reply ∷ []) n

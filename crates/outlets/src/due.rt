@@ -8,7 +8,7 @@ ghost use Rattle.std.specs.shelf.Bests.{FirstBest};
 ghost use Rattle.outlets.specs.Due.{before, messages, places, waiting, in-all, sums-up, Earliest};
 ghost use Rattle.outlets.specs.Meaning.{Step};
 ghost use Rattle.outlets.specs.Messages.{blank};
-ghost use Rattle.outlets.specs.Replies.{offered, took};
+ghost use Rattle.outlets.specs.Replies.{took};
 use crate::message::Message;
 use crate::outlet::Outlet;
 use crate::request::Request;

@@ -1,5 +1,4 @@
 //! What every outlet means: how often each message waits, before and after a call.
-ghost use mathlib.Core.Path.{_≡_};
 ghost use Prim.Native.Nat.{ℕ};
 ghost use Rattle.outlets.specs.declared.message.Message.{Message};
 ghost use Rattle.outlets.specs.Meaning.{InAll, Step};

@@ -1,10 +1,9 @@
 //! Requests that are served by an outlet, one after another.
 ghost use mathlib.Core.Path.{_≡_};
-ghost use mathlib.Core.List.{List, [], _∷_, _++_};
 ghost use Prim.Native.Nat.{min};
 ghost use lib.ListN.{length, take, drop};
 ghost use Rattle.outlets.specs.Meaning.{Step};
-ghost use Rattle.outlets.specs.Balance.{Run, Balanced};
+ghost use Rattle.outlets.specs.Balance.{Run, Balanced, Continues};
 use crate::outlet::Outlet;
 use crate::request::Reply;
 use crate::request::Request;
@@ -24,8 +23,7 @@ fn call<O: Outlet>(outlet: &mut O, request: Request) -> Reply
 /// taken and wait now.
 pub fn answer<O: Outlet>(outlet: &mut O, request: Request) -> Reply
     ensures step { λ r. ⌜ Step (O·Outlet .waits) (O·Outlet .total) (O·Outlet .capacity) (now (outlet .entry)) request r (now (outlet .exit)) ⌝ }
-    ensures run { λ r. ⌜ ((first : O) (asked : List Request) (said : List Reply) → Run (O·Outlet .waits) (O·Outlet .total) (O·Outlet .capacity) first asked said (now (outlet .entry)) → Run (O·Outlet .waits) (O·Outlet .total) (O·Outlet .capacity) first (asked ++ request ∷ []) (said ++ r ∷ []) (now (outlet .exit))) ⌝ }
-    ensures balance { λ r. ⌜ ((first : O) (asked : List Request) (said : List Reply) → Run (O·Outlet .waits) (O·Outlet .total) (O·Outlet .capacity) first asked said (now (outlet .entry)) → Balanced (O·Outlet .waits) first (asked ++ request ∷ []) (said ++ r ∷ []) (now (outlet .exit))) ⌝ }
+    ensures history { λ r. ⌜ Continues (O·Outlet .waits) (O·Outlet .total) (O·Outlet .capacity) (now (outlet .entry)) request r (now (outlet .exit)) ⌝ }
 {
     call(outlet, request)
 }

@@ -3,3 +3,4 @@ pub mod Calls
 pub mod Numbers
 pub mod Parts
 pub mod Texts
+pub mod Outlets

@@ -5,9 +5,13 @@ use Prim.Native.Nat.{ℕ, suc, _-_}
 use lib.Dec.{eqb}
 use lib.ListN.{length, getD, take}
 
--- without the byte 13 that may stand at the end
-abbrev pub without-return : List ℕ → List ℕ
-without-return line = cond (eqb (getD line (length line - 1) 0) 13) (take (length line - 1) line) line
+-- without a byte that may stand at the end
+abbrev pub without-last : ℕ → List ℕ → List ℕ
+without-last byte line = cond (eqb (getD line (length line - 1) 0) byte) (take (length line - 1) line) line
+
+-- without the byte 10 that ends a line, and the byte 13 that may stand before it
+abbrev pub line-text : List ℕ → List ℕ
+line-text line = without-last 13 (without-last 10 line)
 
 -- a space or a tab
 abbrev pub blank : ℕ → Bool

@@ -41,7 +41,7 @@ pub fn is_remark(line: &[u8]) -> bool
     }
 }
 
-fn is_same(part: &[u8], name: &[u8]) -> bool
+pub fn is_same(part: &[u8], name: &[u8]) -> bool
     ensures { λ r. ⌜ r ≡ sameBytes (now (part .entry)) (now (name .entry)) ⌝ }
 {
     part == name
@@ -72,7 +72,7 @@ fn argument(mut parts: Parts) -> Option<u32>
 }
 
 /// The one part that is left, as a number below the limit.
-fn below(parts: Parts, limit: u32) -> Option<u32>
+pub fn below(parts: Parts, limit: u32) -> Option<u32>
     ensures { λ r. ⌜ r ≡ below-in limit (parts-of (parts .entry .rest .now)) ⌝ }
 {
     let number = argument(parts)?;

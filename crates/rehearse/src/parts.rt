@@ -4,16 +4,33 @@ ghost use mathlib.Core.List.{[], _∷_};
 ghost use Prim.Native.Nat.{_≤_};
 ghost use lib.ListN.{length};
 ghost use Rattle.std.specs.Options.{Cases};
-ghost use Rattle.rehearse.specs.Parts.{without-return, blank, leading, parts-of};
+ghost use Rattle.rehearse.specs.Parts.{line-text, without-last, blank, leading, parts-of};
 
 /// The line without the carriage return that may stand before its end.
-pub fn without_return(line: &[u8]) -> &[u8]
-    ensures { λ r. ⌜ now r ≡ without-return (now (line .entry)) ⌝ }
+fn without_return(line: &[u8]) -> &[u8]
+    ensures { λ r. ⌜ now r ≡ without-last 13 (now (line .entry)) ⌝ }
 {
     match line {
         [text @ .., b'\r'] => text,
         text => text,
     }
+}
+
+/// The line without the byte that ends it, if it has one.
+fn without_end(line: &[u8]) -> &[u8]
+    ensures { λ r. ⌜ now r ≡ without-last 10 (now (line .entry)) ⌝ }
+{
+    match line {
+        [text @ .., b'\n'] => text,
+        text => text,
+    }
+}
+
+/// What stands on a line.
+pub fn line_text(line: &[u8]) -> &[u8]
+    ensures { λ r. ⌜ now r ≡ line-text (now (line .entry)) ⌝ }
+{
+    without_return(without_end(line))
 }
 
 fn is_blank(byte: u8) -> bool

@@ -1,4 +1,4 @@
-use mathlib.Core.Path.{_≡_, sym, ap, _∙_}
+use mathlib.Core.Path.{_≡_, ap, _∙_}
 use mathlib.Core.List.{_++_, [], _∷_, map}
 use mathlib.Core.Bool.{cond}
 use Prim.Native.Nat.{min}
@@ -19,9 +19,12 @@ loop-place-again c =
     let k = c .loop-place .place-index in
     let before = items (c .loop-place .list) in
     let r = c .push .result in
-    let joins : items (c .push .last .self) ≡ cond r (before ++ line-of (getD xs k 0) ∷ []) before = e .items ∙ ap (λ x. cond r (before ++ x ∷ []) before) (c .sent .ensures) in (
+    let line : c .sent .result ≡ line-of (getD xs k 0) = c .sent .ensures in
+    let put : items (c .push .last .self) ≡ cond r (before ++ c .sent .result ∷ []) before = e .items in
+    let full : r ≡ ltb (length before) (room (c .loop-place .list)) = e .answer in
+    let joins : items (c .push .last .self) ≡ cond r (before ++ line-of (getD xs k 0) ∷ []) before = put ∙ ap (λ x. cond r (before ++ x ∷ []) before) line in (
       omega arith,
-      fill-more line-of xs (room (c .new-list .result)) k r before (items (c .push .last .self)) (c .loop-place-test .taken) (i .1) (e .answer ∙ ap (λ n. ltb (length before) n) (i .2)) joins,
+      fill-more line-of xs (room (c .new-list .result)) k r before (items (c .push .last .self)) (c .loop-place-test .taken) (i .1) (full ∙ ap (λ n. ltb (length before) n) (i .2)) joins,
       e .room ∙ i .2,
       e .named ∙ i .3,
       λ start h. e .gathered start (i .4 start h),
