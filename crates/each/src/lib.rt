@@ -17,7 +17,7 @@ pub trait Change {
 
 /// Changes each element beside the element of the other list with the same number; elements without one stay.
 pub fn change_each<C: Change>(change: &C, items: &mut [C::Item], marks: &[C::Mark])
-    ensures { items.new ≡ zipped (changed change.now) items.old marks.now }
+    ensures { items.new ≡ zipped (C.changed change.now) items.old marks.now }
 {
     let count = items.len().min(marks.len());
     for i in 0..count {

@@ -50,7 +50,7 @@ impl Derived {
 
     /// A chain that ends on a place and has no line but what that needs, or none where the place does not follow.
     pub fn chain_to<B: Book>(&self, book: &B, place: u16) -> Option<Chain>
-        ensures { Found (size book.now) (rules book.now) self.now → MatchOption result (Derivable (size book.now) (rules book.now) place → ⊥) (λ c. Leads (size book.now) (rules book.now) (lines_of c) place) }
+        ensures { Found (B.size book.now) (B.rules book.now) self.now → MatchOption result (Derivable (B.size book.now) (B.rules book.now) place → ⊥) (λ c. Leads (B.size book.now) (B.rules book.now) (lines_of c) place) }
     {
         let Some(lines) = self.chain.up_to(place) else {
             return None;
@@ -80,7 +80,7 @@ impl Derived {
 
     /// Considers each rule of the book once.
     fn sweep<B: Book>(&mut self, book: &B)
-        ensures { Swept (rules book.now) (size book.now) self.old self.new }
+        ensures { Swept (B.rules book.now) (B.size book.now) self.old self.new }
     {
         for k in 0..book.count() {
             self.consider(k, book.rule(k));
@@ -89,7 +89,7 @@ impl Derived {
 
     /// Considers each rule of the book once, and says whether that found a place.
     fn grows<B: Book>(&mut self, book: &B) -> bool
-        ensures swept { Swept (rules book.now) (size book.now) self.old self.new }
+        ensures swept { Swept (B.rules book.now) (B.size book.now) self.old self.new }
         ensures told { result ≡ false → length (recorded self.new) ≡ length (recorded self.old) }
         ensures more { result ≡ true → length (recorded self.new) ≢ length (recorded self.old) }
     {
@@ -101,8 +101,8 @@ impl Derived {
 
 /// All that follows by the book.
 pub fn derive<B: Book>(book: &B) -> Derived
-    ensures found { Found (size book.now) (rules book.now) result }
-    ensures laws { Laws (size book.now) (rules book.now) }
+    ensures found { Found (B.size book.now) (B.rules book.now) result }
+    ensures laws { Laws (B.size book.now) (B.rules book.now) }
 {
     let mut found = Derived::nothing();
     while found.grows(book) {}

@@ -11,7 +11,7 @@ use super::places::Places;
 
 /// The places that the last line of a chain needs, among them `place`, which it gives.
 fn needs<B: Book>(lines: &[Line], book: &B, place: u16) -> Places
-    ensures { Ends (size book.now) (rules book.now) lines.now place → Needs (rules book.now) lines.now place (holds result) }
+    ensures { Ends (B.size book.now) (B.rules book.now) lines.now place → Needs (B.rules book.now) lines.now place (holds result) }
 {
     let mut needed = Places::none();
     needed.add(place);
@@ -46,7 +46,7 @@ fn keep_all(lines: &[Line], needed: &Places) -> Chain
 /// Of a chain that ends on `place` the lines that its last line needs, with that line.
 pub fn narrow<B: Book>(lines: &[Line], book: &B, place: u16) -> Chain
     requires { length lines.now ≤ 512 }
-    ensures { Ends (size book.now) (rules book.now) lines.now place → Leads (size book.now) (rules book.now) (lines_of result) place }
+    ensures { Ends (B.size book.now) (B.rules book.now) lines.now place → Leads (B.size book.now) (B.rules book.now) (lines_of result) place }
 {
     let needed = needs(lines, book, place);
     keep_all(lines, &needed)

@@ -9,6 +9,6 @@ returns-in-Ok c =
     let t = c.args.table.now in
     let given = granted t c.check.new.table c.args.pattern c.in-Ok.permit.pattern c.args.chain.now c.check.new.chain c.in-Ok.ensures in
     record {
-      removed = λ _. c.use-up.ensures ∙ ap (removed c.check.new.table) given.0 ∙ ap (λ (u : Table). removed u c.args.pattern) given.1;
+      removed = λ _. c.use_up.ensures ∙ ap (removed c.check.new.table) given.0 ∙ ap (λ (u : Table). removed u c.args.pattern) given.1;
       kept = λ e. let z : ◌≡◌ {A = ℕ} 0 1 = cc in absurd (omega arith);
     }

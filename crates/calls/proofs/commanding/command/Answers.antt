@@ -8,8 +8,8 @@ use Rattle.calls.proofs.Judged.{judged}
 use Rattle.calls.proofs.Passed.{unless_ok, unless_err, passed, failed, commandable}
 use Rattle.calls.proofs.commanding.command.Goals as goal
 
-pub try-entry-requires : goal.try-entry-requires
-try-entry-requires c =
+pub try_entry-requires : goal.try_entry-requires
+try_entry-requires c =
     let t = c.args.table.now in
     let b = c.args.block in
     let lines = length c.args.chain.now in
@@ -23,11 +23,11 @@ returns-in-Ok c =
     let t = c.args.table.now in
     let b = c.args.block in
     let before = c.args.chain.now in
-    let after = c.try-entry.new.chain in
+    let after = c.try_entry.new.chain in
     let refusal = command_refusal t b c.args.word (length before) in
     let given = unless_ok refusal (entry_in c.args.word) c.in-Ok.entry c.in-Ok.ensures in
-    let tried = c.try-entry.ensures in
-    let Tried : Entry → Type 0 = λ e. Judged (queued t b e) c.try-entry.result t c.try-entry.new.table before after in
+    let tried = c.try_entry.ensures in
+    let Tried : Entry → Type 0 = λ e. Judged (queued t b e) c.try_entry.result t c.try_entry.new.table before after in
     passed refusal _ _ _ _ _ _ given.0 (subst Tried given.1 (judged (queued t b c.in-Ok.entry) t _ _ before after tried.judged tried.after))
 
 pub returns-in-Err : goal.returns-in-Err

@@ -12,5 +12,5 @@ returns-in-Err c =
     let b = c.args.block in
     let e = c.args.entry in
     let changed : c.queue.new.table ≡ queued t b e = c.if-not-queue.ensures.after in
-    let P : Table → Type 0 = λ trial. Allows (scene_of trial) (Err c.in-Err.fault) c.args.chain.now c.judge-table.new.chain in
-    record { judged = subst P changed c.in-Err.ensures; after = put_back t _ b (joined_rows (rows_at t b) e) _ _ changed c.rows-at-before.ensures c.put.ensures }
+    let P : Table → Type 0 = λ trial. Allows (scene_of trial) (Err c.in-Err.fault) c.args.chain.now c.judge_table.new.chain in
+    record { judged = subst P changed c.in-Err.ensures; after = put_back t _ b (joined_rows (rows_at t b) e) _ _ changed c.rows_at-before.ensures c.put.ensures }

@@ -5,4 +5,4 @@ use Rattle.calls.proofs.judge.used_place.Goals as goal
 pub returns : goal.returns
 returns c =
     let scene = scene_of c.args.table.now in
-    tells scene (OfPattern scene c.args.pattern) _ _ _ c.requires c.into-pattern.ensures
+    tells scene (OfPattern scene c.args.pattern) _ _ _ c.requires c.into_pattern.ensures

@@ -13,5 +13,5 @@ returns-in-Ok c =
     record {
       value = search rules;
       after = told.after;
-      loads-back = λ sound n e. let back = told.loads-back sound n (same_number c.in-Ok.written n e) in ((Ok _, back.0, refl), back.1);
+      loads_back = λ sound n e. let back = told.loads_back sound n (same_number c.in-Ok.written n e) in ((Ok _, back.0, refl), back.1);
     }

@@ -7,10 +7,10 @@ use Rattle.first_in_uses.proofs.waiting.wait.Goals as goal
 pub returns : goal.returns
 returns c =
     let q = c.args.list.now in
-    let made = c.make-room-out.ensures in
+    let made = c.make_room-out.ensures in
     let e = c.push.ensures in
-    let mid = items c.make-room-out.new.list in
-    let full : c.push.result ≡ ltb (length mid) (room c.make-room-out.new.list) = e.answer in
+    let mid = items c.make_room-out.new.list in
+    let full : c.push.result ≡ ltb (length mid) (room c.make_room-out.new.list) = e.answer in
     record {
       answer = made.answer;
       items = waits_newest (room q) (items q) mid (items c.push.new.self) c.args.call c.push.result (items_within q) made.items (full ∙ ap (λ n. ltb (length mid) n) made.room) e.items;

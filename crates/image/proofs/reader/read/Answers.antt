@@ -6,7 +6,7 @@ use Rattle.image.proofs.reader.read.Goals as goal
 pub returns : goal.returns
 returns c =
     let ws = c.args.words.now in
-    let is = c.read-nodes.ensures in
+    let is = c.read_nodes.ensures in
     record {
       value = is;
       accepts = λ image. (λ e. only_accepted ws image (sym is ∙ e), λ a. is ∙ all_accepted ws image a);

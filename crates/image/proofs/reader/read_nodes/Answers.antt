@@ -15,7 +15,7 @@ loop-placed-preserved c =
     let p = c.in-Some.placed in
     let ws = c.args.words.now in
     let at = k.reader.position in
-    let told = c.in-ok-placed.ensures in
+    let told = c.in_ok-placed.ensures in
     let was : Ok (Some p) ≡ node_of (drop at ws) at k.floor k.nodes =
     ap Ok (sym c.in-Some.is) ∙ told.value ∙ ap (λ w. node_of (drop at w) at k.floor k.nodes) k.invariant.0 in
     let high : above k.floor (Some p) = subst (above k.floor) c.in-Some.is told.placed in
@@ -25,12 +25,12 @@ loop-placed-preserved c =
     let done = k.invariant.4 in
     (ap (λ w. w.now) c.node.ensures.same ∙ k.invariant.0, omega (arith, high.0, k.invariant.1), omega (arith, high.1), length-set k.places p.place (Some p.node) ∙ k.invariant.3, cc)
 
-pub returns-in-err-placed : goal.returns-in-err-placed
-returns-in-err-placed c =
+pub returns-in_err-placed : goal.returns-in_err-placed
+returns-in_err-placed c =
     let k = c.loop-placed in
     let at = k.reader.position in
     let p = err_from_is_err_and c.from-residual.result c.from-residual.ensures.1 in
-    let was = c.in-err-placed.ensures.value ∙ ap (λ w. node_of (drop at w) at k.floor k.nodes) k.invariant.0 in
+    let was = c.in_err-placed.ensures.value ∙ ap (λ w. node_of (drop at w) at k.floor k.nodes) k.invariant.0 in
     rw (p.1, p.2)
     (sym (refused c.args.words.now at k.floor k.nodes (512 - k.nodes) (513 - k.nodes) k.places (omega (arith, k.invariant.1, k.invariant.2)) _ was) ∙ k.invariant.4)
 
@@ -39,5 +39,5 @@ returns c =
     let k = c.loop-placed in
     let at = k.reader.position in
     let was : Ok None ≡ node_of (drop at c.args.words.now) at k.floor k.nodes =
-    ap Ok (sym c.in-default.is) ∙ c.in-ok-placed.ensures.value ∙ ap (λ w. node_of (drop at w) at k.floor k.nodes) k.invariant.0 in
+    ap Ok (sym c.in_default.is) ∙ c.in_ok-placed.ensures.value ∙ ap (λ w. node_of (drop at w) at k.floor k.nodes) k.invariant.0 in
     sym (all c.args.words.now at k.floor k.nodes (512 - k.nodes) (513 - k.nodes) k.places (omega (arith, k.invariant.1, k.invariant.2)) was) ∙ k.invariant.4

@@ -7,7 +7,7 @@ use Rattle.image.proofs.writer.live.Goals as goal
 pub loop-slot-preserved : goal.loop-slot-preserved
 loop-slot-preserved c =
     let more = live_more c.args.places.now c.loop-slot.slot-index c.loop-slot-test.true in
-    (omega (arith, c.slot-live-count.ensures.value, c.loop-slot.invariant.0), omega (arith, c.slot-live-count.ensures.bound, c.loop-slot.invariant.1))
+    (omega (arith, c.slot_live-count.ensures.value, c.loop-slot.invariant.0), omega (arith, c.slot_live-count.ensures.bound, c.loop-slot.invariant.1))
 
 pub returns : goal.returns
 returns c =

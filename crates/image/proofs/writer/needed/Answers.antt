@@ -8,7 +8,7 @@ pub loop-slot-preserved : goal.loop-slot-preserved
 loop-slot-preserved c =
     let i = c.loop-slot.slot-index in
     let more = size_more c.args.places.now i c.loop-slot-test.true in
-    (omega (arith, c.slot-size-count.ensures.value i, c.loop-slot.invariant.0), omega (arith, c.slot-size-count.ensures.bound, c.loop-slot.invariant.1))
+    (omega (arith, c.slot_size-count.ensures.value i, c.loop-slot.invariant.0), omega (arith, c.slot_size-count.ensures.bound, c.loop-slot.invariant.1))
 
 pub returns : goal.returns
 returns c =

@@ -5,8 +5,8 @@ use Rattle.image.specs.Writing.{puts, slot_words}
 use Rattle.image.proofs.Puts.{size_more, puts_more}
 use Rattle.image.proofs.writer.put_nodes.Goals as goal
 
-pub put-slot-at-requires : goal.put-slot-at-requires
-put-slot-at-requires c =
+pub put_slot-at-requires : goal.put_slot-at-requires
+put_slot-at-requires c =
     let more = size_more c.args.places.now c.loop-place.place c.loop-place-test.true in
     omega (arith, c.loop-place.invariant.0, c.requires.1)
 
@@ -16,8 +16,8 @@ loop-place-preserved c =
     let i = c.loop-place.place in
     let size = size_more ps i c.loop-place-test.true in
     let more = puts_more ps i c.loop-place-test.true c.loop-place.out c.loop-place.at in
-    let to = c.put-slot-at.ensures.value in
-    let out = c.put-slot-at.ensures.after in
+    let to = c.put_slot-at.ensures.value in
+    let out = c.put_slot-at.ensures.after in
     let was = c.loop-place.invariant.1 in
     (omega (arith, c.loop-place.invariant.0), cc)
 

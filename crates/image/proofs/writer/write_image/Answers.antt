@@ -24,11 +24,11 @@ returns c =
     let out = c.args.words.now in
     let long = image_long ps in
     let room : length (image_words ps) ≤ length out = omega (arith, c.needed-needed.ensures.value, c.if-words-needed.false) in
-    let n : c.put.result ≡ length (image_words ps) = omega (arith, c.put.ensures.value, c.put-nodes-at.ensures.value) in
+    let n : c.put.result ≡ length (image_words ps) = omega (arith, c.put.ensures.value, c.put_nodes-at.ensures.value) in
     let end = ap (λ k. written (End k)) c.live.ensures.value in
-    let put : c.put.new.out ≡ set c.put-nodes-at.new.out (length (nodes_words 0 ps)) (written (End c.live.result)) =
-    c.put.ensures.after ∙ ap (λ i. set c.put-nodes-at.new.out i (written (End c.live.result))) c.put-nodes-at.ensures.value in
-    let nodes = ap (λ o. set o (length (nodes_words 0 ps)) (written (End c.live.result))) c.put-nodes-at.ensures.after in
+    let put : c.put.new.out ≡ set c.put_nodes-at.new.out (length (nodes_words 0 ps)) (written (End c.live.result)) =
+    c.put.ensures.after ∙ ap (λ i. set c.put_nodes-at.new.out i (written (End c.live.result))) c.put_nodes-at.ensures.value in
+    let nodes = ap (λ o. set o (length (nodes_words 0 ps)) (written (End c.live.result))) c.put_nodes-at.ensures.after in
     record {
       value = cond_above (length out) (length (image_words ps)) _ _ _ room (ap Ok n);
       after = cond_above (length out) (length (image_words ps)) _ _ _ room (put ∙ nodes ∙ puts_image out ps _ end room);

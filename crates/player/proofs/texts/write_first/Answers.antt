@@ -6,4 +6,4 @@ use Rattle.player.proofs.texts.write_first.Goals as goal
 
 pub returns : goal.returns
 returns g c plain ok =
-    has_written_of_eq g.W.Write.write_str_gives _ _ _ _ (ap entries_text (first_ones c.args.entries.now c.args.count c.min.result c.min.ensures)) (c.write-entries.ensures plain ok)
+    has_written_of_eq g.W.Write.write_str_gives _ _ _ _ (ap entries_text (first_ones c.args.entries.now c.args.count c.min.result c.min.ensures)) (c.write_entries.ensures plain ok)

@@ -21,8 +21,8 @@ loop-line-preserved c =
     let r = c.push.result in
     let zs = map f (take k xs) in
     let x = get_or xs k (record { rule = 0; place = 0 }) in
-    let line : c.line-of.result ≡ f x = c.line-of.ensures in
-    let put : items c.push.new.self ≡ cond r (before ++ c.line-of.result ∷ []) before = e.items in
+    let line : c.line_of.result ≡ f x = c.line_of.ensures in
+    let put : items c.push.new.self ≡ cond r (before ++ c.line_of.result ∷ []) before = e.items in
     let full : r ≡ ltb (length before) (room c.loop-line.list) = e.answer in (
       omega arith,
       filled_more size zs before (items c.push.new.self) (f x) r i.1 (full ∙ ap (λ n. ltb (length before) n) i.2) (put ∙ ap (λ y. cond r (before ++ y ∷ []) before) line)

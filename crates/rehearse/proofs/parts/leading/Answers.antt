@@ -8,12 +8,12 @@ flip : (b c : Bool) → not b ≡ c → b ≡ not c
 flip true c e = ap not e
 flip false c e = ap not e
 
-pub returns-then-is-blank-blanks : goal.returns-then-is-blank-blanks
-returns-then-is-blank-blanks c =
+pub returns-then-is_blank-blanks : goal.returns-then-is_blank-blanks
+returns-then-is_blank-blanks c =
     let bytes = c.args.bytes.now in
     let i = c.loop-i.i in
     let k = c.args.blanks in
-    let is : beq (blank (get_or bytes i 0)) k ≡ false = ap (λ b. beq b k) (sym c.is-blank.ensures) ∙ flip _ _ c.if-is-blank-blanks.true in
+    let is : beq (blank (get_or bytes i 0)) k ≡ false = ap (λ b. beq b k) (sym c.is_blank.ensures) ∙ flip _ _ c.if-is_blank-blanks.true in
     let more = at_drop_more (leading k) bytes i 0 c.loop-i-test.true in
     let here : leading k (drop i bytes) ≡ 0 = more ∙ ap (λ b. cond b (suc (leading k (drop (i + 1) bytes))) 0) is in
     record { value = omega (arith, c.loop-i.invariant); bound = omega arith }
@@ -23,7 +23,7 @@ loop-i-preserved c =
     let bytes = c.args.bytes.now in
     let i = c.loop-i.i in
     let k = c.args.blanks in
-    let is : beq (blank (get_or bytes i 0)) k ≡ true = ap (λ b. beq b k) (sym c.is-blank.ensures) ∙ flip _ _ c.if-is-blank-blanks.false in
+    let is : beq (blank (get_or bytes i 0)) k ≡ true = ap (λ b. beq b k) (sym c.is_blank.ensures) ∙ flip _ _ c.if-is_blank-blanks.false in
     let more = at_drop_more (leading k) bytes i 0 c.loop-i-test.true in
     let here : leading k (drop i bytes) ≡ suc (leading k (drop (i + 1) bytes)) = more ∙ ap (λ b. cond b (suc (leading k (drop (i + 1) bytes))) 0) is in
     omega (arith, c.loop-i.invariant)

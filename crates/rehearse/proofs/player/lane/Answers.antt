@@ -11,4 +11,4 @@ either false it other = refl
 pub returns : goal.returns
 returns c =
     let number = c.args.number in
-    ap (walker number) (c.unwrap-or-lane.ensures ∙ ap (λ o. unwrap_or o idle_lane) c.lane.ensures ∙ either (ltb number 8) (lane_at c.args.table.now.lanes number) idle_lane)
+    ap (walker number) (c.unwrap_or-lane.ensures ∙ ap (λ o. unwrap_or o idle_lane) c.lane.ensures ∙ either (ltb number 8) (lane_at c.args.table.now.lanes number) idle_lane)

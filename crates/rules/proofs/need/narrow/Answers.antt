@@ -8,5 +8,5 @@ pub returns : goal.returns
 returns g c end =
     let book = c.args.book.now in
     let p = c.args.place in
-    subst (λ l. Leads (g.B.Book.size book) (g.B.Book.rules book) l p) (sym c.keep-all.ensures)
+    subst (λ l. Leads (g.B.Book.size book) (g.B.Book.rules book) l p) (sym c.keep_all.ensures)
     (keep_ends (g.B.Book.size book) (g.B.Book.rules book) c.args.lines.now p (holds c.needs-needed.result) end (c.needs-needed.ensures end))

@@ -9,5 +9,5 @@ loop-part-preserved c = (
   tt,
   gathers (parts_of c.into-iter-part-iterator.result.rest.now) (parts_of c.loop-part.part-iterator.rest.now) (parts_of c.next.new.self.rest.now)
       c.in-Some.part.now (vec_items c.loop-part.words) (vec_items c.push.new.self) c.in-Some-hexadecimal.word
-      c.loop-part.invariant.2 c.in-Some.ensures.steps (sym c.in-Some-hexadecimal.ensures) c.in-ok-push.ensures.items,
+      c.loop-part.invariant.2 c.in-Some.ensures.steps (sym c.in-Some-hexadecimal.ensures) c.in_ok-push.ensures.items,
 )

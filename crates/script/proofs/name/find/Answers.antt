@@ -14,13 +14,13 @@ decides names part text i b more inv t e =
     sym inv ∙ at_drop_more (λ names. named names part) names i Memory more
     ∙ ap (λ b. cond b (Some (get_or names i Memory)) (named (drop (i + 1) names) part)) (ap (bytes_eq part) (sym t) ∙ sym e)
 
-pub returns-then-is-same : goal.returns-then-is-same
-returns-then-is-same c =
-    sym (decides c.args.names.now c.args.part.now _ c.loop-name.name-index true c.loop-name-test.true c.loop-name.invariant (c.as-bytes.ensures.value ∙ c.name-text.ensures) c.if-is-same.ensures)
+pub returns-then-is_same : goal.returns-then-is_same
+returns-then-is_same c =
+    sym (decides c.args.names.now c.args.part.now _ c.loop-name.name-index true c.loop-name-test.true c.loop-name.invariant (c.as_bytes.ensures.value ∙ c.name_text.ensures) c.if-is_same.ensures)
 
 pub loop-name-preserved : goal.loop-name-preserved
 loop-name-preserved c =
-    sym (decides c.args.names.now c.args.part.now _ c.loop-name.name-index false c.loop-name-test.true c.loop-name.invariant (c.as-bytes.ensures.value ∙ c.name-text.ensures) c.if-is-same.ensures)
+    sym (decides c.args.names.now c.args.part.now _ c.loop-name.name-index false c.loop-name-test.true c.loop-name.invariant (c.as_bytes.ensures.value ∙ c.name_text.ensures) c.if-is_same.ensures)
 
 pub returns : goal.returns
 returns c = sym (sym c.loop-name.invariant ∙ at_drop_all (λ names. named names c.args.part.now) c.args.names.now c.loop-name.name-index c.loop-name-test.false)

@@ -5,4 +5,4 @@ use Rattle.script.proofs.Values.{narrowed}
 use Rattle.script.proofs.number.short_number.Goals as goal
 
 pub returns : goal.returns
-returns c = c.short.ensures ∙ ap (λ o. then o (fitting 32)) c.in-ok-number.ensures ∙ narrowed c.args.base c.args.word.now
+returns c = c.short.ensures ∙ ap (λ o. then o (fitting 32)) c.in_ok-number.ensures ∙ narrowed c.args.base c.args.word.now

@@ -5,9 +5,9 @@ use Rattle.steps.proofs.walk.step.Goals as goal
 pub returns : goal.returns
 returns g c =
     let o = g.O.Outlet in
-    let exact = c.walk-any.ensures in
+    let exact = c.walk_any.ensures in
     let lane = c.args.lane in
     record {
       exact = exact;
-      says = says o.waits o.total o.capacity (ltb lane 8) c.args.table.now c.args.outlet.now lane c.walk-any.result c.walk-any.new.table c.walk-any.new.outlet exact;
+      says = says o.waits o.total o.capacity (ltb lane 8) c.args.table.now c.args.outlet.now lane c.walk_any.result c.walk_any.new.table c.walk_any.new.outlet exact;
     }

@@ -10,8 +10,8 @@ within g c =
     let n : c.args.n < length s = omega (arith, length-ring s q.head q.len) in
     omega (arith, place_within q.head c.args.n (length s) n)
 
-pub offset-bounds-self-at : goal.offset-bounds-self-at
-offset-bounds-self-at g c = let lt = within g c in search rules
+pub offset_bounds-self-at : goal.offset_bounds-self-at
+offset_bounds-self-at g c = let lt = within g c in search rules
 
 pub bounds-self-at : goal.bounds-self-at
 bounds-self-at g c = within g c

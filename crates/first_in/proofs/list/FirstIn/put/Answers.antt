@@ -10,14 +10,14 @@ within g c =
     let lt : q.len < length q.slots.now = omega (arith, length-ring q.slots.now q.head q.len) in
     omega (arith, place_within q.head q.len (length q.slots.now) lt)
 
-pub offset-bounds-self-at : goal.offset-bounds-self-at
-offset-bounds-self-at g c = let lt = within g c in search rules
+pub offset_bounds-self-at : goal.offset_bounds-self-at
+offset_bounds-self-at g c = let lt = within g c in search rules
 
 pub bounds-self-at : goal.bounds-self-at
 bounds-self-at g c = within g c
 
-pub overflow-add-self : goal.overflow-add-self
-overflow-add-self g c =
+pub overflow_add-self : goal.overflow_add-self
+overflow_add-self g c =
     let q = c.args.self.now in
     let lt : q.len < length q.slots.now = omega (arith, length-ring q.slots.now q.head q.len) in
     search rules

@@ -9,24 +9,24 @@ use Rattle.player.proofs.player.Player.reach.Goals as goal
 pub returns-in-None : goal.returns-in-None
 returns-in-None g c =
     let self = c.args.self.now in
-    let verdict = subst (λ t. Verdict (scene_of t) (λ p. p ≡ c.args.place) None c.as-mut-slice.result.now c.to-place.new.chain) c.table-table.ensures c.in-None.ensures in (
+    let verdict = subst (λ t. Verdict (scene_of t) (λ p. p ≡ c.args.place) None c.as_mut_slice.result.now c.to_place.new.chain) c.table-table.ensures c.in-None.ensures in (
       None,
-      moved (Verdict (scene_of self.sequencer.table) (λ p. p ≡ c.args.place) None) (vec_items self.memory) c.as-mut-slice.result.now c.to-place.new.chain self.memory.items self.memory.len
-          c.as-mut-slice.ensures.value c.to-place.auto.chain c.as-mut-slice.ensures.len verdict,
+      moved (Verdict (scene_of self.sequencer.table) (λ p. p ≡ c.args.place) None) (vec_items self.memory) c.as_mut_slice.result.now c.to_place.new.chain self.memory.items self.memory.len
+          c.as_mut_slice.ensures.value c.to_place.auto.chain c.as_mut_slice.ensures.len verdict,
       refl,
       refl,
       refl,
     )
 
-pub returns-in-ok-chain-to : goal.returns-in-ok-chain-to
-returns-in-ok-chain-to g c =
+pub returns-in_ok-chain_to : goal.returns-in_ok-chain_to
+returns-in_ok-chain_to g c =
     let self = c.args.self.now in
     let place = c.in-Some.place in
-    let verdict = subst (λ t. Verdict (scene_of t) (λ p. p ≡ c.args.place) (Some place) c.as-mut-slice.result.now c.to-place.new.chain) c.table-table.ensures c.in-Some.ensures in (
+    let verdict = subst (λ t. Verdict (scene_of t) (λ p. p ≡ c.args.place) (Some place) c.as_mut_slice.result.now c.to_place.new.chain) c.table-table.ensures c.in-Some.ensures in (
       Some place,
-      moved (Verdict (scene_of self.sequencer.table) (λ p. p ≡ c.args.place) (Some place)) (vec_items self.memory) c.as-mut-slice.result.now c.to-place.new.chain self.memory.items self.memory.len
-          c.as-mut-slice.ensures.value c.to-place.auto.chain c.as-mut-slice.ensures.len verdict,
-      ap in_reach (c.in-ok-chain-to.ensures.lines ∙ ap (until place) c.as-slice.ensures.value),
+      moved (Verdict (scene_of self.sequencer.table) (λ p. p ≡ c.args.place) (Some place)) (vec_items self.memory) c.as_mut_slice.result.now c.to_place.new.chain self.memory.items self.memory.len
+          c.as_mut_slice.ensures.value c.to_place.auto.chain c.as_mut_slice.ensures.len verdict,
+      ap in_reach (c.in_ok-chain_to.ensures.lines ∙ ap (until place) c.as_slice.ensures.value),
       refl,
       refl,
     )

@@ -6,5 +6,5 @@ use Rattle.player.proofs.player.Player.rows.Goals as goal
 
 pub returns : goal.returns
 returns g c =
-    let same : c.unwrap-or-rows.result ≡ rows_at c.args.self.now.sequencer.table c.args.block = search (rules, get_or_past) in
+    let same : c.unwrap_or-rows.result ≡ rows_at c.args.self.now.sequencer.table c.args.block = search (rules, get_or_past) in
     ap (rows_told c.args.block) same

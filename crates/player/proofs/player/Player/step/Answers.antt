@@ -2,8 +2,8 @@ use Rattle.player.proofs.Keeping.{step_check}
 use Rattle.player.proofs.Spending.{still_held}
 use Rattle.player.proofs.player.Player.step.Goals as goal
 
-pub invariant-of-self : goal.invariant-of-self
-invariant-of-self g c =
+pub invariant_of-self : goal.invariant_of-self
+invariant_of-self g c =
     let self = c.args.self.now in
     let after = c.step.new.self in
     let same = step_check g.O.Outlet.waits g.O.Outlet.total g.O.Outlet.capacity self.sequencer.table self.sequencer.outlet c.args.lane c.step.result after.table after.outlet c.step.ensures.exact in

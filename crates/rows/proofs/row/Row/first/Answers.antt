@@ -5,8 +5,8 @@ use Rattle.rows.specs.Entries.{blank}
 use Rattle.rows.proofs.Changes.{first_waiting}
 use Rattle.rows.proofs.row.Row.first.Goals as goal
 
-pub returns-in-default : goal.returns-in-default
-returns-in-default c =
+pub returns-in_default : goal.returns-in_default
+returns-in_default c =
     let row = c.args.self.now in
     let l : row.count ≤ length row.entries = search rules in
     let e : Some (get_or row.entries 0 blank) ≡ first_of (plain_of row) = search rules in

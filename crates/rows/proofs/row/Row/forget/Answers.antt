@@ -9,7 +9,7 @@ pub returns : goal.returns
 returns c =
     let row = c.args.self.now in
     let places = c.args.places.now in
-    let after : PlainRow = record { count = row.count; entries = c.each-forgotten-entries.result } in
+    let after : PlainRow = record { count = row.count; entries = c.each_forgotten-entries.result } in
     let e : after ≡ forgotten places (plain_of row) = search rules in
     record {
       exact = e;

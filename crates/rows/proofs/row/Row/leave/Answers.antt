@@ -9,10 +9,10 @@ pub returns : goal.returns
 returns c =
     let row = c.args.self.now in
     let n : row.count ≤ 4 = search rules in
-    let after : PlainRow = record { count = row.count - 1; entries = c.moved-up-entries.result } in
+    let after : PlainRow = record { count = row.count - 1; entries = c.moved_up-entries.result } in
     let e : after ≡ left (plain_of row) = search rules in
     record {
       exact = e;
-      listed = ap waiting e ∙ waiting_left row.count row.entries c.moved-up-entries.ensures.four n;
-      canonical = λ h. subst Canonical (sym e) (canonical_left row.count row.entries c.moved-up-entries.ensures.four h);
+      listed = ap waiting e ∙ waiting_left row.count row.entries c.moved_up-entries.ensures.four n;
+      canonical = λ h. subst Canonical (sym e) (canonical_left row.count row.entries c.moved_up-entries.ensures.four h);
     }

@@ -10,7 +10,7 @@ returns g c =
     let exact = c.release.ensures.told in
     record {
       exact = exact;
-      handed-back = c.release.ensures.handed-back;
+      handed_back = c.release.ensures.handed_back;
       outlet = refl;
       goes_on = goes_on o.waits o.total o.capacity _ _ uses.quiet _ _ (λ h u. uses.release c.args.permit.pattern (fault_told c.release.result) c.release.new.table u exact);
     }

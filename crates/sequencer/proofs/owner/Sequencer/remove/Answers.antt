@@ -11,7 +11,7 @@ returns g c =
     let exact = c.remove.ensures.told in
     record {
       exact = exact;
-      handed-back = c.remove.ensures.handed-back;
+      handed_back = c.remove.ensures.handed_back;
       outlet = refl;
       goes_on = goes_on o.waits o.total o.capacity _ _ uses.quiet _ _ (λ h u. uses.remove c.args.permit.pattern (fault_told c.remove.result) c.remove.new.table u exact);
       law = law o.waits o.total o.capacity;

@@ -5,5 +5,5 @@ use Rattle.table.proofs.state.Table.empty.Goals as goal
 
 pub returns : goal.returns
 returns c =
-    let exact = c.without-pattern.ensures in
+    let exact = c.without_pattern.ensures in
     record { exact = exact; sound = λ s. subst Sound (sym exact) (emptied_sound c.args.self.now c.args.pattern s) }

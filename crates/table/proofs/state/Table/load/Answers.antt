@@ -6,9 +6,9 @@ pub returns : goal.returns
 returns c =
     let before = c.args.self.now in
     let ws = c.args.words.now in
-    let answer = c.load-image.result in
-    let after = c.load-image.new.self in
-    let exact = c.load-image.ensures in
+    let answer = c.load_image.result in
+    let after = c.load_image.new.self in
+    let exact = c.load_image.ensures in
     record {
       exact = exact;
       once = λ other then fits. loads_once before ws answer other after then exact fits;
