@@ -18,12 +18,18 @@ mod examples {
     }
 
     // The words are refused with this number at this position.
-    fn refused(rt: &impl Abort, words: &[u32], number: u8, position: usize) -> Result<(), Fail> {
+    fn refused(
+        rt: &impl Abort,
+        words: &[u32],
+        number: u8,
+        position: usize,
+        what: &str,
+    ) -> Result<(), Fail> {
         match read(words) {
             Ok(_) => Err(Fail::new("accepted")),
             Err(fault) => {
-                assert_eq!(rt; fault.number(), number);
-                assert_eq!(rt; fault.place(), position);
+                assert_eq!(rt; fault.number(), number, "{what}");
+                assert_eq!(rt; fault.place(), position, "{what}");
                 Ok(())
             }
         }
@@ -77,18 +83,30 @@ mod examples {
 
     #[test]
     fn refuses_ragged_images(rt: HostRuntime) -> Result<(), Fail> {
-        refused(&rt, &[], 6, 0).note("no word at all")?;
-        refused(&rt, &[0x1101_0000], 6, 1).note("only a head")?;
-        refused(&rt, &[0x1101_0000, 0x2000_0001, 0x3000_0000], 6, 3).note("no event")?;
+        refused(&rt, &[], 6, 0, "no word at all")?;
+        refused(&rt, &[0x1101_0000], 6, 1, "only a head")?;
+        refused(
+            &rt,
+            &[0x1101_0000, 0x2000_0001, 0x3000_0000],
+            6,
+            3,
+            "no event",
+        )?;
         refused(
             &rt,
             &[0x1301_0000, 0x2000_0001, 0x3000_0000, 0x6000_0001],
             6,
             4,
-        )
-        .note("no order")?;
-        refused(&rt, &[0x1201_0000, 0x2000_0001, 0x3000_0001], 6, 3).note("no end word")?;
-        refused(&rt, &[0xF000_0001], 6, 0).note("counts a node that is not there")?;
+            "no order",
+        )?;
+        refused(
+            &rt,
+            &[0x1201_0000, 0x2000_0001, 0x3000_0001],
+            6,
+            3,
+            "no end word",
+        )?;
+        refused(&rt, &[0xF000_0001], 6, 0, "counts a node that is not there")?;
         refused(
             &rt,
             &[
@@ -100,10 +118,22 @@ mod examples {
             ],
             6,
             3,
+            "wrong count before another word",
+        )?;
+        refused(
+            &rt,
+            &[0xF000_0000, 0xF000_0000],
+            6,
+            1,
+            "an end word after the end word",
+        )?;
+        refused(
+            &rt,
+            &[0xF000_0000, 0],
+            6,
+            1,
+            "a word of no kind after the end word",
         )
-        .note("wrong count before another word")?;
-        refused(&rt, &[0xF000_0000, 0xF000_0000], 6, 1).note("an end word after the end word")?;
-        refused(&rt, &[0xF000_0000, 0], 6, 1).note("a word of no kind after the end word")
     }
 
     #[test]
@@ -113,15 +143,15 @@ mod examples {
             &[0x1201_0001, 0x2000_0001, 0x3000_0001, 0x1201_0001],
             5,
             3,
-        )
-        .note("the same place")?;
+            "the same place",
+        )?;
         refused(
             &rt,
             &[0x1201_0001, 0x2000_0001, 0x3000_0001, 0x1101_0000],
             5,
             3,
-        )
-        .note("a place below")?;
+            "a place below",
+        )?;
         refused(
             &rt,
             &[
@@ -133,37 +163,67 @@ mod examples {
             ],
             5,
             4,
-        )
-        .note("after an alternative")?;
+            "after an alternative",
+        )?;
         refused(
             &rt,
             &[0x1201_0001, 0x2000_0001, 0x3000_0001, 0x1201_1000],
             4,
             3,
+            "a head that is no word is 4 first",
+        )?;
+        refused(
+            &rt,
+            &[0x1101_0001, 0x1101_0000],
+            4,
+            1,
+            "a head where a next is wanted is 4",
         )
-        .note("a head that is no word is 4 first")?;
-        refused(&rt, &[0x1101_0001, 0x1101_0000], 4, 1).note("a head where a next is wanted is 4")
     }
 
     #[test]
     fn refuses_bad_words(rt: HostRuntime) -> Result<(), Fail> {
-        refused(&rt, &[0], 4, 0).note("no kind")?;
-        refused(&rt, &[0x1001_0000], 4, 0).note("no type")?;
-        refused(&rt, &[0x1401_0000], 4, 0).note("a type too large")?;
-        refused(&rt, &[0x1101_0200], 4, 0).note("a place too large")?;
-        refused(&rt, &[0x1101_1000], 4, 0).note("a bit that is not named")?;
-        refused(&rt, &[0xF000_1000], 4, 0).note("a bit of the end word that is not named")?;
-        refused(&rt, &[0x8010_0000], 4, 0).note("a pass stands in no image")?;
-        refused(&rt, &[0x1101_0000, 0x2000_0FFF], 4, 1).note("the next of a message is no end")?;
-        refused(&rt, &[0x1101_0000, 0x2000_0200, 0x3000_0000], 4, 1).note("a next too large")?;
-        refused(&rt, &[0x1201_0000, 0x2000_0001, 0x3000_0000], 4, 2).note("a period of 0")?;
+        refused(&rt, &[0], 4, 0, "no kind")?;
+        refused(&rt, &[0x1001_0000], 4, 0, "no type")?;
+        refused(&rt, &[0x1401_0000], 4, 0, "a type too large")?;
+        refused(&rt, &[0x1101_0200], 4, 0, "a place too large")?;
+        refused(&rt, &[0x1101_1000], 4, 0, "a bit that is not named")?;
+        refused(
+            &rt,
+            &[0xF000_1000],
+            4,
+            0,
+            "a bit of the end word that is not named",
+        )?;
+        refused(&rt, &[0x8010_0000], 4, 0, "a pass stands in no image")?;
+        refused(
+            &rt,
+            &[0x1101_0000, 0x2000_0FFF],
+            4,
+            1,
+            "the next of a message is no end",
+        )?;
+        refused(
+            &rt,
+            &[0x1101_0000, 0x2000_0200, 0x3000_0000],
+            4,
+            1,
+            "a next too large",
+        )?;
+        refused(
+            &rt,
+            &[0x1201_0000, 0x2000_0001, 0x3000_0000],
+            4,
+            2,
+            "a period of 0",
+        )?;
         refused(
             &rt,
             &[0x1101_0000, 0x2000_0001, 0x3000_0000, 0x5000_0000],
             4,
             3,
+            "no event",
         )
-        .note("no event")
     }
 
     #[test]
@@ -173,8 +233,8 @@ mod examples {
             &[0x1201_0000, 0x2000_0001, 0x3000_0001, 0x5000_0001],
             4,
             3,
-        )
-        .note("an alternative that is the next")?;
+            "an alternative that is the next",
+        )?;
         refused(
             &rt,
             &[
@@ -186,8 +246,8 @@ mod examples {
             ],
             4,
             4,
-        )
-        .note("an alternative twice")?;
+            "an alternative twice",
+        )?;
         refused(
             &rt,
             &[
@@ -197,25 +257,25 @@ mod examples {
                 0x5000_0002,
                 0x5000_0003,
                 0x5000_0002,
-            ],
-            4,
-            5,
-        )
-        .note("the first again")?;
-        refused(
-            &rt,
-            &[
-                0x1201_0000,
-                0x2000_0001,
-                0x3000_0001,
-                0x5000_0002,
-                0x5000_0003,
-                0x5000_0003,
             ],
             4,
             5,
-        )
-        .note("the second again")?;
+            "the first again",
+        )?;
+        refused(
+            &rt,
+            &[
+                0x1201_0000,
+                0x2000_0001,
+                0x3000_0001,
+                0x5000_0002,
+                0x5000_0003,
+                0x5000_0003,
+            ],
+            4,
+            5,
+            "the second again",
+        )?;
         refused(
             &rt,
             &[
@@ -229,15 +289,15 @@ mod examples {
             ],
             4,
             6,
-        )
-        .note("a fourth")?;
+            "a fourth",
+        )?;
         refused(
             &rt,
             &[0x1301_0000, 0x2000_0001, 0x3000_0000, 0x6000_0FFF],
             4,
             3,
-        )
-        .note("a target is no end")?;
+            "a target is no end",
+        )?;
         refused(
             &rt,
             &[
@@ -249,8 +309,8 @@ mod examples {
             ],
             4,
             4,
-        )
-        .note("repeats of 0")?;
+            "repeats of 0",
+        )?;
         refused(
             &rt,
             &[
@@ -262,8 +322,8 @@ mod examples {
             ],
             4,
             4,
-        )
-        .note("a bit of an order that is not named")?;
+            "a bit of an order that is not named",
+        )?;
         refused(
             &rt,
             &[
@@ -275,8 +335,8 @@ mod examples {
             ],
             4,
             4,
+            "a pass is no order",
         )
-        .note("a pass is no order")
     }
 
     // A block with as many words as a node can have.

@@ -13,7 +13,7 @@ pub trait Question {
 
 /// The lowest of the 512 places for which the answer is yes.
 pub fn lowest<Q: Question>(question: &Q) -> Option<u16>
-    ensures { FoundLowest (Yes (says question.now)) result }
+    ensures { FoundLowest (Yes (Q.says question.now)) result }
 {
     for place in 0..512 {
         if question.ask(place) {

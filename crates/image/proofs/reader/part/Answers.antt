@@ -9,12 +9,12 @@ use Rattle.image.proofs.Whole.{body_fits}
 use Rattle.image.proofs.Heads.{head_read}
 use Rattle.image.proofs.reader.part.Goals as goal
 
-pub returns-in_err-body : goal.returns-in_err-body
-returns-in_err-body c =
+pub returns-in_err-body-in-Some-Head : goal.returns-in_err-body-in-Some-Head
+returns-in_err-body-in-Some-Head c =
     let ws = c.args.words.now in
     let at = c.args.at in
-    let p = err_from_is_err_and c.from-residual.result c.from-residual.ensures.1 in
-    let is = c.in_err-body.ensures ∙ ap (λ l. body_of c.in-Some-Head.kind l (at + 1)) (take_rest ws 1) in
+    let p = err_from_is_err_and c.from_residual.result c.from_residual.ensures.1 in
+    let is = c.in_err-body-in-Some-Head.ensures ∙ ap (λ l. body_of c.in-Some-Head.kind l (at + 1)) (take_rest ws 1) in
     let some : 1 ≤ length ws = search rules in
     let high : c.args.floor ≤ c.in-Some-Head.place = search rules in
     let head : read (get_or ws 0 0) ≡ Some (Head c.in-Some-Head.kind c.in-Some-Head.pattern c.in-Some-Head.place) = search rules in
@@ -25,15 +25,15 @@ returns-in_err-body c =
       placed = tt;
     })
 
-pub returns-in_ok-body : goal.returns-in_ok-body
-returns-in_ok-body c =
+pub returns-in_ok-body-in-Some-Head : goal.returns-in_ok-body-in-Some-Head
+returns-in_ok-body-in-Some-Head c =
     let ws = c.args.words.now in
     let at = c.args.at in
-    let is = c.in_ok-body.ensures ∙ ap (λ l. body_of c.in-Some-Head.kind l (at + 1)) (take_rest ws 1) in
+    let is = c.in_ok-body-in-Some-Head.ensures ∙ ap (λ l. body_of c.in-Some-Head.kind l (at + 1)) (take_rest ws 1) in
     let some : 1 ≤ length ws = search rules in
     let high : c.args.floor ≤ c.in-Some-Head.place = search rules in
     let head : read (get_or ws 0 0) ≡ Some (Head c.in-Some-Head.kind c.in-Some-Head.pattern c.in-Some-Head.place) = search rules in
-    let fits = body_fits c.in-Some-Head.kind (drop 1 ws) (at + 1) c.in_ok-body.body (sym is) in
+    let fits = body_fits c.in-Some-Head.kind (drop 1 ws) (at + 1) c.in_ok-body-in-Some-Head.body (sym is) in
     record {
       value = head_read ws at c.args.floor c.args.count _ _ _ some head high (Ok _) is;
       within = omega (arith, length-drop 1 ws);

@@ -29,7 +29,7 @@ pub returns-in_err-placed : goal.returns-in_err-placed
 returns-in_err-placed c =
     let k = c.loop-placed in
     let at = k.reader.position in
-    let p = err_from_is_err_and c.from-residual.result c.from-residual.ensures.1 in
+    let p = err_from_is_err_and c.from_residual.result c.from_residual.ensures.1 in
     let was = c.in_err-placed.ensures.value ∙ ap (λ w. node_of (drop at w) at k.floor k.nodes) k.invariant.0 in
     rw (p.1, p.2)
     (sym (refused c.args.words.now at k.floor k.nodes (512 - k.nodes) (513 - k.nodes) k.places (omega (arith, k.invariant.1, k.invariant.2)) _ was) ∙ k.invariant.4)

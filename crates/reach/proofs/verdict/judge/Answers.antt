@@ -14,7 +14,7 @@ returns-in_err-place g c =
     let says = g.Q.Question.says c.args.kind.now in
     let memory = c.args.chain.now in
     let none = nowhere s says c.derive-found.result c.derive-found.ensures.found c.bounded.ensures c.in_err-place.ensures in
-    subst (λ r. Verdict s (Yes says) r memory memory) (sym c.from-residual.ensures) (none, refl)
+    subst (λ r. Verdict s (Yes says) r memory memory) (sym c.from_residual.ensures) (none, refl)
 
 -- a place that follows has a chain
 pub returns-in_err-steps : goal.returns-in_err-steps

@@ -5,7 +5,7 @@ use Rattle.rules.proofs.derived.derive.Goals as goal
 pub loop-init : goal.loop-init
 loop-init g c =
     let book = c.args.book.now in
-    subst (Good (g.B.Book.size book) (g.B.Book.rules book)) (sym c.nothing_found.ensures) (good_nothing (g.B.Book.size book) (g.B.Book.rules book))
+    subst (Good (g.B.Book.size book) (g.B.Book.rules book)) (sym c.nothing-found.ensures) (good_nothing (g.B.Book.size book) (g.B.Book.rules book))
 
 pub loop-preserved : goal.loop-preserved
 loop-preserved g c =

@@ -5,12 +5,12 @@ use Rattle.script.proofs.number.number.Goals as goal
 
 pub returns-in_err-digit : goal.returns-in_err-digit
 returns-in_err-digit c =
-    c.from-residual.ensures
+    c.from_residual.ensures
     ∙ sym (no_digit c.args.base c.loop-b.value c.loop-b.b-index c.args.word.now (omega arith) c.loop-b.invariant.0 (sym c.in_err-digit.ensures))
 
 pub returns-in_err-value : goal.returns-in_err-value
 returns-in_err-value c =
-    c.from-residual-in_err-value.ensures
+    c.from_residual-in_err-value.ensures
     ∙ sym (no_room c.args.base c.loop-b.value c.loop-b.b-index c.args.word.now (omega arith) c.loop-b.invariant.0 c.in_ok-digit.field-0 c.requires (sym c.in_ok-digit.ensures) (sym c.in_err-value.ensures))
 
 pub loop-b-preserved : goal.loop-b-preserved
