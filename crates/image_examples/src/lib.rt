@@ -364,7 +364,7 @@ mod examples {
             assert_eq!(rt; *word, 7, "a word past the image");
         }
         accepted(&rt, &words[0..3073], 512)?;
-        refused(&rt, &words[0..3072], 6, 3072)
+        refused(&rt, &words[0..3072], 6, 3072, "without the end word")
     }
 
     #[test]

@@ -9,9 +9,9 @@ use Rattle.rehearse.proofs.texts.write_entries.Goals as goal
 pub loop-one-preserved : goal.loop-one-preserved
 loop-one-preserved g c plain =
     let before = c.loop-one.invariant plain in
-    has_written_of_eq g.W.Write.write_str_gives _ _ _ _ (one_more c.args.entries.now c.loop-one.one_Index blank c.loop-one-test.true)
-    (has_written_append g.W.Write.write_str_gives _ _ _ _ _ before (c.in_ok-write.ensures.shows before.plain refl))
+    has_written_of_eq g.W.Write.write_str_gives _ _ _ _ (one_more c.args.entries.now c.loop-one.one-index blank c.loop-one-test.true)
+    (has_written_append g.W.Write.write_str_gives _ _ _ _ _ before (c.in_ok-write.ensures.writes before.plain refl))
 
 pub returns : goal.returns
 returns g c plain ok =
-    has_written_of_eq g.W.Write.write_str_gives _ _ _ _ (ap entries_text (take_all c.loop-one.one_Index c.args.entries.now (omega arith))) (c.loop-one.invariant plain)
+    has_written_of_eq g.W.Write.write_str_gives _ _ _ _ (ap entries_text (take_all c.loop-one.one-index c.args.entries.now (omega arith))) (c.loop-one.invariant plain)

@@ -14,7 +14,7 @@ returns-in-Ok g c =
     let memory = c.as_mut_slice.result.now in
     let few = subst (λ (t : Table). length (image_words t.nodes) ≤ 3073) c.table.ensures c.useful-size.ensures.few in
     let size : length memory ≡ min c.args.room 3073
-    = ap length (c.as_mut_slice.ensures.value ∙ c.in_ok-words.ensures.items-if-clones-equal (λ y h. h)) ∙ length-replicate c.useful-size.result 0 ∙ c.useful-size.ensures.value in
+    = ap length (c.as_mut_slice.ensures.value ∙ c.in_ok-words.ensures.items_if_clones_equal (λ y h. h)) ∙ length-replicate c.useful-size.result 0 ∙ c.useful-size.ensures.value in
     let facts = fits image memory c.args.room few size
     c.write.new.words c.in_ok-words.words.items (vec_items c.truncate.new.self) c.in_ok-words.words.len c.in-Ok.count (Memory (length image))
     c.in-Ok.ensures.value c.in-Ok.ensures.after (sym c.as_mut_slice.ensures.len) c.truncate.ensures.items in
