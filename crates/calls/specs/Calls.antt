@@ -18,7 +18,7 @@ use Rattle.table.specs.Tables.{emptied}
 use Rattle.table.specs.Changes.{state_changed, check_changed, queued}
 use Rattle.reach.specs.declared.fault.Fault.TheVariants as reach
 use Rattle.reach.specs.declared.line.Line.{Line}
-use Rattle.reach.specs.Scenes.{scene_of, OfPattern}
+use Rattle.reach.specs.Scenes.{scene_of, IsOfPattern}
 use Rattle.steps.specs.declared.answer.Step.{Step}
 use Rattle.calls.specs.declared.fault.Fault.{Fault}
 use Rattle.calls.specs.declared.fault.Fault.TheVariants.{Range, Memory, Busy, Below, State, Row, Bare, Permit}
@@ -77,13 +77,13 @@ Command t block word answer after_t before after =
 
 -- some place is live with the pattern
 abbrev pub HasNode : Table → ℕ → Type 0
-HasNode t pattern = (p : ℕ) × OfPattern (scene_of t) pattern p
+HasNode t pattern = (p : ℕ) × IsOfPattern (scene_of t) pattern p
 
 -- Refused exactly where a lawful chain ends in the pattern; otherwise granted, unless the pattern has no node. A permit is told by its pattern.
 abbrev pub Checked : Table → ℕ → Result ℕ Fault → Table → List Line → List Line → Type 0
 Checked t pattern (Ok permit) after_t before after =
     (Uses t pattern → ⊥) × HasNode t pattern × (permit ≡ pattern) × (after_t ≡ check_changed t (Some pattern)) × (after ≡ before)
-Checked t pattern (Err (Below (reach.Reach place))) after_t before after = Told (scene_of t) (OfPattern (scene_of t) pattern) place before after × (after_t ≡ t)
+Checked t pattern (Err (Below (reach.Reach place))) after_t before after = Told (scene_of t) (IsOfPattern (scene_of t) pattern) place before after × (after_t ≡ t)
 Checked t pattern (Err (Bare bare)) after_t before after = (Uses t pattern → ⊥) × (HasNode t pattern → ⊥) × (bare ≡ pattern) × (after_t ≡ t) × (after ≡ before)
 Checked t pattern (Err (Below (reach.Table fault))) after_t before after = ⊥
 Checked t pattern (Err (Range argument)) after_t before after = ⊥

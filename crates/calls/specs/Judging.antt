@@ -3,7 +3,7 @@ use Rattle.std.specs.Prelude.{◌≡◌, ℕ, List, ◌++◌, length, drop, Some
 use Rattle.table.specs.declared.state.Table.{Table}
 use Rattle.reach.specs.declared.fault.Fault.TheVariants as reach
 use Rattle.reach.specs.declared.line.Line.{Line}
-use Rattle.reach.specs.Scenes.{Scene, scene_of, Empty, OfPattern}
+use Rattle.reach.specs.Scenes.{Scene, scene_of, Empty, IsOfPattern}
 use Rattle.reach.specs.Chains.{Shows}
 use Rattle.reach.specs.Verdicts.{ComesTo}
 use Rattle.calls.specs.declared.fault.Fault.{Fault}
@@ -15,7 +15,7 @@ Astray t = ComesTo (scene_of t) (Empty (scene_of t))
 
 -- some lawful chain ends in the pattern
 abbrev pub Uses : Table → ℕ → Type 0
-Uses t pattern = ComesTo (scene_of t) (OfPattern (scene_of t) pattern)
+Uses t pattern = ComesTo (scene_of t) (IsOfPattern (scene_of t) pattern)
 
 -- A refusal for reach tells a place of the kind, and the memory then holds a lawful chain that ends on it, from its first line on; later
 -- lines keep what they held. Which chain it is, no rule decides.

@@ -1,7 +1,7 @@
 //! Whether a table as it would be is allowed.
 ghost use Rattle.std.specs.Prelude.{◌≡◌, ◌≤◌, length};
 ghost use Rattle.reach.specs.Views.{scene_in};
-ghost use Rattle.reach.specs.Scenes.{scene_of, OfPattern};
+ghost use Rattle.reach.specs.Scenes.{scene_of, IsOfPattern};
 ghost use Rattle.calls.specs.Trials.{Allows, Tells};
 
 use crate::fault::Fault;
@@ -35,7 +35,7 @@ pub(crate) fn judge_table(table: &Table, chain: &mut [Line]) -> Result<(), Fault
 /// A place of the pattern that lanes can come to, if there is one; the chain that shows it is written to the memory.
 pub(crate) fn used_place(table: &Table, pattern: u8, chain: &mut [Line]) -> Option<u16>
     requires { 512 ≤ length chain.old }
-    ensures { Tells (scene_of table.now) (OfPattern (scene_of table.now) pattern) result chain.old chain.new }
+    ensures { Tells (scene_of table.now) (IsOfPattern (scene_of table.now) pattern) result chain.old chain.new }
 {
     let view = View {
         nodes: &table.nodes,

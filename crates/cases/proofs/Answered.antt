@@ -13,7 +13,7 @@ use Rattle.table.specs.Changes.{check_changed, queued}
 use Rattle.table.proofs.Once.{loads_once}
 use Rattle.reach.specs.declared.fault.Fault.TheVariants as reach
 use Rattle.reach.specs.declared.line.Line.{Line}
-use Rattle.reach.specs.Scenes.{Scene, scene_of, node_in, Empty, OfPattern}
+use Rattle.reach.specs.Scenes.{Scene, scene_of, node_in, Empty, IsOfPattern}
 use Rattle.reach.specs.Verdicts.{ComesTo}
 use Rattle.calls.specs.declared.fault.Fault.{Fault}
 use Rattle.calls.specs.declared.fault.Fault.TheVariants.{Range, Memory, Busy, Below, State, Row, Bare, Permit}
@@ -262,18 +262,18 @@ checked t pattern =
 abbrev pub check_out : Table → ℕ → Outcome (Result ℕ Fault)
 check_out t pattern = tested (check_refusal t pattern 512) t (checked t pattern)
 
-pattern_told : (s : Scene) (pattern : ℕ) → ToldBy (OfPattern s pattern) (pattern_at s pattern)
+pattern_told : (s : Scene) (pattern : ℕ) → ToldBy (IsOfPattern s pattern) (pattern_at s pattern)
 pattern_told s pattern = record { yes = λ p e. e; is = λ p e. e }
 
 module _ (t : Table) (pattern : ℕ) (memory : List Line) (long : length memory ≡ 512) where
   checked_is : (checked t pattern).sure ≡ true → Comes (checked t pattern) (λ answer then after. Checked t pattern answer then memory after)
   checked_is h =
-      finding_is t pattern (check_changed t (Some pattern)) _ (scene_of t) (OfPattern (scene_of t) pattern) _ (pattern_told (scene_of t) pattern) memory long
+      finding_is t pattern (check_changed t (Some pattern)) _ (scene_of t) (IsOfPattern (scene_of t) pattern) _ (pattern_told (scene_of t) pattern) memory long
       (λ answer then after. Checked t pattern answer then memory after)
       (λ none e. (none, (place_in t pattern, e), refl, refl, refl)) (λ q after told. (told, refl)) (finding (scene_of t) (pattern_at (scene_of t) pattern)) h
 
   checked_ways : (other : Result ℕ Fault) (then : Table) (after : List Line) → Checked t pattern other then memory after
-      → Ways t pattern (check_changed t (Some pattern)) (HasNode t pattern) (scene_of t) (OfPattern (scene_of t) pattern) memory other then after
+      → Ways t pattern (check_changed t (Some pattern)) (HasNode t pattern) (scene_of t) (IsOfPattern (scene_of t) pattern) memory other then after
   checked_ways (Ok permit) then after j = inl (ap Ok j.2, j.3, j.4, j.0)
   checked_ways (Err (Below (reach.Reach q))) then after j = inr (inl (q, refl, j.0, j.1))
   checked_ways (Err (Bare bare)) then after j = inr (inr (j.0, j.1))
@@ -287,7 +287,7 @@ module _ (t : Table) (pattern : ℕ) (memory : List Line) (long : length memory 
 
   checked_only : (checked t pattern).sure ≡ true → Only (checked t pattern) (λ answer then after. Checked t pattern answer then memory after)
   checked_only h =
-      finding_only t pattern (check_changed t (Some pattern)) _ (scene_of t) (OfPattern (scene_of t) pattern) _ (pattern_told (scene_of t) pattern) memory long
+      finding_only t pattern (check_changed t (Some pattern)) _ (scene_of t) (IsOfPattern (scene_of t) pattern) _ (pattern_told (scene_of t) pattern) memory long
       (λ answer then after. Checked t pattern answer then memory after) (HasNode t pattern) (λ e. (place_in t pattern, e)) checked_ways
       (finding (scene_of t) (pattern_at (scene_of t) pattern)) h
 

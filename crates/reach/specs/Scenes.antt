@@ -48,8 +48,8 @@ abbrev pub Empty : Scene → ℕ → Type 0
 Empty s p = node_in s p ≡ None
 
 -- the place is live with the pattern number
-abbrev pub OfPattern : Scene → ℕ → ℕ → Type 0
-OfPattern s pattern p = in_pattern pattern (node_in s p) ≡ true
+abbrev pub IsOfPattern : Scene → ℕ → ℕ → Type 0
+IsOfPattern s pattern p = in_pattern pattern (node_in s p) ≡ true
 
 -- ### the four grounds
 

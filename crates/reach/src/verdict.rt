@@ -3,7 +3,7 @@ ghost use Rattle.std.specs.Prelude.{◌≡◌, ℕ, true};
 ghost use Rattle.structure.specs.Lowest.{Yes};
 ghost use Rattle.reach.specs.Chains.{InReach};
 ghost use Rattle.reach.specs.Laws.{ReachSaid};
-ghost use Rattle.reach.specs.Scenes.{Empty, OfPattern};
+ghost use Rattle.reach.specs.Scenes.{Empty, IsOfPattern};
 ghost use Rattle.reach.specs.Verdicts.{Verdict};
 ghost use Rattle.reach.specs.Views.{scene_in};
 
@@ -33,7 +33,7 @@ fn judge<Q: Question>(view: &View, kind: &Q, chain: &mut [Line]) -> Option<u16>
 /// A place with a node of the pattern that lanes can come to, if there is one. Its chain is written to the memory,
 /// which is unchanged where there is none.
 pub fn into_pattern(view: &View, pattern: u8, chain: &mut [Line]) -> Option<u16>
-    ensures { Verdict (scene_in view.now) (OfPattern (scene_in view.now) pattern) result chain.old chain.new }
+    ensures { Verdict (scene_in view.now) (IsOfPattern (scene_in view.now) pattern) result chain.old chain.new }
 {
     let nodes = view.nodes;
     judge(view, &OfPattern { nodes, pattern }, chain)

@@ -12,7 +12,7 @@ use Rattle.table.specs.declared.state.Table.{Table}
 use Rattle.table.specs.Tables.{in_pattern}
 use Rattle.table.specs.Changes.{lane_changed, state_changed, rows_at}
 use Rattle.reach.specs.declared.line.Letter.TheVariants as letter
-use Rattle.reach.specs.Scenes.{scene_of, Empty, OfPattern, Stands, Next, Block, Ordered, Flow}
+use Rattle.reach.specs.Scenes.{scene_of, Empty, IsOfPattern, Stands, Next, Block, Ordered, Flow}
 use Rattle.reach.specs.Chains.{InReach}
 use Rattle.reach.specs.Laws.{Within}
 use Rattle.reach.proofs.Induction.{reach_closed}
@@ -22,7 +22,7 @@ use Rattle.reach.proofs.Within.{idle, moved}
 pub record Calm (t n : Table) : Type 0 where
   pub within : Within (scene_of n) (scene_of t)
   pub empty : (p : ℕ) → InReach (scene_of t) p → Empty (scene_of n) p → Empty (scene_of t) p
-  pub pattern : (k p : ℕ) → InReach (scene_of t) p → OfPattern (scene_of n) k p → OfPattern (scene_of t) k p
+  pub pattern : (k p : ℕ) → InReach (scene_of t) p → IsOfPattern (scene_of n) k p → IsOfPattern (scene_of t) k p
   pub check : (k : ℕ) → n.check ≡ Some k → t.check ≡ Some k
 
 -- the nodes are the same, and so is the open check

@@ -4,7 +4,7 @@ use Rattle.table.specs.declared.state.Table.{Table}
 use Rattle.table.specs.Changes.{queued}
 use Rattle.reach.specs.declared.fault.Fault.TheVariants as reach
 use Rattle.reach.specs.declared.line.Line.{Line}
-use Rattle.reach.specs.Scenes.{Scene, scene_of, Empty, OfPattern}
+use Rattle.reach.specs.Scenes.{Scene, scene_of, Empty, IsOfPattern}
 use Rattle.reach.specs.Verdicts.{ComesTo}
 use Rattle.calls.specs.declared.fault.Fault.{Fault}
 use Rattle.calls.specs.declared.fault.Fault.TheVariants.{Range, Memory, Busy, Below, State, Row, Bare, Permit}
@@ -65,7 +65,7 @@ module _ (trial t n : Table) (before after : List Line) where
 
 module _ (t : Table) (pattern : ℕ) (n : Table) (before after : List Line) where
   abbrev Kind : ℕ → Type 0
-  Kind = OfPattern (scene_of t) pattern
+  Kind = IsOfPattern (scene_of t) pattern
 
   checked_exact : (answer : Result ℕ Fault) → Checked t pattern answer n before after
       → ExactAnswer t Kind (Uses t pattern) answer before after

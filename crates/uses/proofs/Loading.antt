@@ -7,7 +7,7 @@ use Rattle.structure.specs.Nodes.{node_at}
 use Rattle.structure.specs.Lowest.{Nowhere, Yes}
 use Rattle.table.specs.declared.state.Table.{Table}
 use Rattle.table.specs.Tables.{taken, over, loaded, in_pattern, marked, without}
-use Rattle.reach.specs.Scenes.{scene_of, Empty, OfPattern}
+use Rattle.reach.specs.Scenes.{scene_of, Empty, IsOfPattern}
 use Rattle.reach.specs.Chains.{InReach}
 use Rattle.reach.specs.Laws.{Apart}
 use Rattle.reach.proofs.Sets.{zipped_cases}
@@ -74,7 +74,7 @@ without_pattern : (k : ℕ) (old : Option Node) (mark : Bool) → in_pattern k (
 without_pattern k old true h = absurd (false≢true h)
 without_pattern k old false h = h
 
-pub removed_calm : (t : Table) (pattern : ℕ) → ((p : ℕ) → InReach (scene_of t) p → OfPattern (scene_of t) pattern p → ⊥) → Calm t (removed t pattern)
+pub removed_calm : (t : Table) (pattern : ℕ) → ((p : ℕ) → InReach (scene_of t) p → IsOfPattern (scene_of t) pattern p → ⊥) → Calm t (removed t pattern)
 removed_calm t pattern spared =
     let marks : List Bool = marked pattern t.nodes in
     record {

@@ -11,7 +11,7 @@ use Rattle.table.specs.Tables.{cleared, loaded}
 use Rattle.table.specs.Changes.{queued}
 use Rattle.reach.specs.declared.line.Letter.TheVariants as letter
 use Rattle.reach.specs.declared.line.Line.{Line}
-use Rattle.reach.specs.Scenes.{scene_of, Empty, OfPattern, Stands}
+use Rattle.reach.specs.Scenes.{scene_of, Empty, IsOfPattern, Stands}
 use Rattle.reach.specs.Chains.{InReach}
 use Rattle.reach.specs.Verdicts.{ComesTo}
 use Rattle.reach.specs.Laws.{Closed}
@@ -43,8 +43,8 @@ module _ (t : Table) where
   live_at : KeptSafe t → (p : ℕ) → InReach (scene_of t) p → Empty (scene_of t) p → ⊥
   live_at s p r e = s.live (comes (Empty (scene_of t)) p r e)
 
-  spared_at : KeptSafe t → (pattern : ℕ) → t.check ≡ Some pattern → (p : ℕ) → InReach (scene_of t) p → OfPattern (scene_of t) pattern p → ⊥
-  spared_at s pattern c p r e = s.spared pattern c (comes (OfPattern (scene_of t) pattern) p r e)
+  spared_at : KeptSafe t → (pattern : ℕ) → t.check ≡ Some pattern → (p : ℕ) → InReach (scene_of t) p → IsOfPattern (scene_of t) pattern p → ⊥
+  spared_at s pattern c p r e = s.spared pattern c (comes (IsOfPattern (scene_of t) pattern) p r e)
 
 -- a place that a chain of n ends on was in reach in t
 was_reach : (t n : Table) → Calm t n → (Kind : ℕ → Type 0) (c : ComesTo (scene_of n) Kind) → InReach (scene_of t) c.1
@@ -53,7 +53,7 @@ was_reach t n calm Kind c = calm.within c.1 (ended_reach (scene_of n) c.0 c.1 c.
 pub calm_safe : (t n : Table) → Calm t n → KeptSafe t → KeptSafe n
 calm_safe t n calm s = record {
   live = λ c. let was = was_reach t n calm (Empty (scene_of n)) c in live_at t s c.1 was (calm.empty c.1 was c.3);
-  spared = λ k e c. let was = was_reach t n calm (OfPattern (scene_of n) k) c in spared_at t s k (calm.check k e) c.1 was (calm.pattern k c.1 was c.3);
+  spared = λ k e c. let was = was_reach t n calm (IsOfPattern (scene_of n) k) c in spared_at t s k (calm.check k e) c.1 was (calm.pattern k c.1 was c.3);
 }
 
 -- ### what holds

@@ -17,7 +17,7 @@ use Rattle.table.specs.Laws.{Sound}
 use Rattle.table.specs.Changes.{rows_at, queued}
 use Rattle.reach.specs.declared.fault.Fault.TheVariants as reach
 use Rattle.reach.specs.declared.line.Line.{Line}
-use Rattle.reach.specs.Scenes.{scene_of, Empty, Stands, OfPattern}
+use Rattle.reach.specs.Scenes.{scene_of, Empty, Stands, IsOfPattern}
 use Rattle.calls.specs.declared.fault.Fault.{Fault}
 use Rattle.calls.specs.declared.fault.Fault.TheVariants.{Below, Bare}
 use Rattle.steps.specs.Limits.{limit}
@@ -56,7 +56,7 @@ pub record Exact (t : Table) : Type 0 where
       × ((Astray (queued t block (entry_in word)) → ⊥) → answer ≡ Ok tt)
   pub checks : (pattern : ℕ) (answer : Result ℕ Fault) (after_t : Table) (before after : List Line)
       → Check t pattern answer after_t before after → check_refusal t pattern (length before) ≡ None
-      → ExactAnswer t (OfPattern (scene_of t) pattern) (Uses t pattern) answer before after
+      → ExactAnswer t (IsOfPattern (scene_of t) pattern) (Uses t pattern) answer before after
       × ((Uses t pattern → ⊥) → HasNode t pattern → answer ≡ Ok pattern)
       × ((Uses t pattern → ⊥) → (HasNode t pattern → ⊥) → answer ≡ Err (Bare pattern))
 

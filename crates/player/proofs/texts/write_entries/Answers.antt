@@ -10,7 +10,7 @@ pub loop-one-preserved : goal.loop-one-preserved
 loop-one-preserved g c plain =
     let before = c.loop-one.invariant plain in
     has_written_of_eq g.W.Write.write_str_gives _ _ _ _ (one_more (λ entry. codes " " ++ entry_text entry) c.args.entries.now c.loop-one.one-index blank c.loop-one-test.true)
-    (has_written_append g.W.Write.write_str_gives _ _ _ _ _ before (c.in_ok-write.ensures.shows before.plain refl))
+    (has_written_append g.W.Write.write_str_gives _ _ _ _ _ before (c.in_ok-write.ensures.writes before.plain refl))
 
 pub returns : goal.returns
 returns g c plain ok =
