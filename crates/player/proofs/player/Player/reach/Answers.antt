@@ -18,15 +18,15 @@ returns-in-None g c =
       refl,
     )
 
-pub returns-in_ok-chain_to : goal.returns-in_ok-chain_to
-returns-in_ok-chain_to g c =
+pub returns-in_ok-chain_to-in-Some : goal.returns-in_ok-chain_to-in-Some
+returns-in_ok-chain_to-in-Some g c =
     let self = c.args.self.now in
     let place = c.in-Some.place in
     let verdict = subst (λ t. Verdict (scene_of t) (λ p. p ≡ c.args.place) (Some place) c.as_mut_slice.result.now c.to_place.new.chain) c.table-table.ensures c.in-Some.ensures in (
       Some place,
       moved (Verdict (scene_of self.sequencer.table) (λ p. p ≡ c.args.place) (Some place)) (vec_items self.memory) c.as_mut_slice.result.now c.to_place.new.chain self.memory.items self.memory.len
           c.as_mut_slice.ensures.value c.to_place.auto.chain c.as_mut_slice.ensures.len verdict,
-      ap in_reach (c.in_ok-chain_to.ensures.lines ∙ ap (until place) c.as_slice.ensures.value),
+      ap in_reach (c.in_ok-chain_to-in-Some.ensures.lines ∙ ap (until place) c.as_slice.ensures.value),
       refl,
       refl,
     )

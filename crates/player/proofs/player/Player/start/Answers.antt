@@ -12,7 +12,7 @@ pub invariant_of-self : goal.invariant_of-self
 invariant_of-self g c =
     let self = c.args.self.now in
     let same = start_check self.sequencer.table c.start-answer.new.self.table c.as_mut_slice-memory.result.now c.start-answer.new.chain c.args.lane c.args.place c.args.tick c.start-answer.result c.start-answer.ensures.exact in
-    (still_held self.permit self.sequencer.table.check c.start-answer.new.self.table.check same self.held, tt)
+    record { held = still_held self.permit self.sequencer.table.check c.start-answer.new.self.table.check same self.held }
 
 pub returns : goal.returns
 returns g c =
