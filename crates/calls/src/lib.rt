@@ -1,4 +1,6 @@
 //! The calls of the console on a table and an outlet.
+#![tactic(auto)]
+
 mod checking;
 mod commanding;
 mod fault;

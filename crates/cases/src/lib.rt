@@ -1,4 +1,6 @@
 //! Worked cases of calls and their answers, which follow from what the calls are defined to answer.
+#![tactic(auto)]
+
 ghost use Rattle.cases.specs.Cases.{AllHold};
 
 /// Every worked case holds: its calls, made one after another from a cleared table and an empty outlet on, may be answered

@@ -1,4 +1,6 @@
 //! A change made to each element of a list, beside another list.
+#![tactic(auto)]
+
 ghost use Rattle.std.specs.Prelude.{◌≡◌, length};
 ghost use Rattle.each.specs.Each.{zipped};
 

@@ -1,4 +1,6 @@
 //! Two uses of the first-in list: lines gathered into the caller's memory, and calls that wait for their turn.
+#![tactic(auto)]
+
 mod lines;
 mod waiting;
 

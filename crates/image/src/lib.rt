@@ -1,4 +1,6 @@
 //! Images: lists of words that describe the nodes of a programme, read from and written into the caller's memory.
+#![tactic(auto)]
+
 mod places;
 mod reader;
 mod writer;

@@ -1,4 +1,6 @@
 //! Examples of images, each judged as the rules say.
+#![tactic(auto)]
+
 #[cfg(test)]
 mod examples {
     use image::{read, write};

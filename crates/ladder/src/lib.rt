@@ -1,4 +1,6 @@
 //! Two small books of rules, and what follows by them.
+#![tactic(auto)]
+
 ghost use Rattle.std.specs.Prelude.{◌≡◌, ◌<◌, ◌≤◌, true, MatchOption};
 ghost use Rattle.rules.specs.Chain.{Leads, lines_of};
 ghost use Rattle.ladder.specs.Books.{knot_rule, ladder_rule};

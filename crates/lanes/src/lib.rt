@@ -1,4 +1,6 @@
 //! The eight lanes that walk a programme.
+#![tactic(auto)]
+
 mod calls;
 mod lane;
 mod record;

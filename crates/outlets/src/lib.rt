@@ -1,4 +1,6 @@
 //! Outlets: where the messages of a console wait between those who offer and those who take, none lost and none doubled.
+#![tactic(auto)]
+
 mod arrival;
 mod due;
 mod message;

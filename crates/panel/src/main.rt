@@ -1,4 +1,6 @@
 //! The panel: judges an image from the standard input, and writes the line that tells how it was judged.
+#![tactic(auto)]
+
 ghost use Rattle.std.specs.Prelude.{ℕ, ◌≤◌, length, IfOk};
 ghost use Rattle.panel.specs.Shown.{Shown};
 

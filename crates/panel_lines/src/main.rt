@@ -1,4 +1,6 @@
 //! Shows the panel's lines for an example image, once as it should be and once with a wrong count.
+#![tactic(auto)]
+
 use calls_readout::judged;
 use std::io;
 

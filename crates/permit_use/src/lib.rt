@@ -1,4 +1,6 @@
 //! How a permit is used: it goes into `remove` or `release`. A program that lets one go is not proved, and one that uses it twice is not compiled.
+#![tactic(auto)]
+
 ghost use Rattle.std.specs.Prelude.{◌≡◌, true, false, Some, None, MatchOption};
 ghost use Rattle.table.specs.Changes.{check_changed};
 ghost use Rattle.calls.specs.Calls.{removed};

@@ -1,4 +1,6 @@
 //! The player of a script: it makes the calls on a sequencer and tells what each answered.
+#![tactic(auto)]
+
 mod answer;
 mod chain;
 mod images;

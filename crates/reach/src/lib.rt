@@ -1,4 +1,6 @@
 //! Where lanes can come to, and the chains of grounds that show it.
+#![tactic(auto)]
+
 mod bounds;
 mod conclusion;
 mod fault;

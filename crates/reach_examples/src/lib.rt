@@ -1,4 +1,6 @@
 //! Examples of what is in reach, each with its chain.
+#![tactic(auto)]
+
 #[cfg(test)]
 mod examples {
     use lanes::LaneCall;

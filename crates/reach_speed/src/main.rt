@@ -1,4 +1,6 @@
 //! Times one verdict on a full table whose chain of grounds is as long as can be.
+#![tactic(auto)]
+
 use lanes::LaneCall;
 use reach::{Letter, Line, View, into_pattern};
 use std::io;

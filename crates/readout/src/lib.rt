@@ -1,4 +1,6 @@
 //! What the console reads in and shows: bytes packed into words, and the line that tells how an image was judged.
+#![tactic(auto)]
+
 mod bytes;
 mod layer;
 mod line;

@@ -1,4 +1,6 @@
 //! Which of 512 places follow by a book of rules, and the chains that show it.
+#![tactic(auto)]
+
 mod book;
 mod chain;
 mod derived;

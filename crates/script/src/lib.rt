@@ -1,4 +1,6 @@
 //! Scripts of calls: their lines, and the call that each line says.
+#![tactic(auto)]
+
 mod call;
 mod lines;
 mod name;

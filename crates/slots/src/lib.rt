@@ -1,4 +1,6 @@
 //! A fixed number of slots, any one of which can be lent to be changed in place.
+#![tactic(auto)]
+
 ghost use Rattle.std.specs.Prelude.{◌≡◌, ◌<◌, get_or, set};
 ghost use Rattle.std.specs.Borrow.{sem, follows};
 ghost use Rattle.slots.specs.contracts.Slots.{the_row};

@@ -1,4 +1,6 @@
 //! The step of a lane: what it comes to on a message, a block or a flow.
+#![tactic(auto)]
+
 mod answer;
 mod elements;
 mod flowing;

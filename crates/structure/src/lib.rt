@@ -1,4 +1,6 @@
 //! How the nodes of a table hang together: what is late, what never ends, and what a target does not list.
+#![tactic(auto)]
+
 mod ending;
 mod judge;
 mod late;

@@ -1,4 +1,6 @@
 //! The table that all calls work on: its nodes, the rows of its blocks, its lanes and its open check.
+#![tactic(auto)]
+
 mod changes;
 mod emptying;
 mod fault;

@@ -1,4 +1,6 @@
 //! What holds after any calls.
+#![tactic(auto)]
+
 ghost use Rattle.uses.specs.Law.{Law};
 
 use outlets::Outlet;

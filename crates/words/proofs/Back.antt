@@ -1,17 +1,16 @@
 -- Reading and writing a word undo each other.
-use Rattle.std.proofs.Common.{◌≡◌, ℕ, ◌+◌, ◌*◌, ◌/◌, ◌%◌, ◌^◌, ◌<◌, ◌≤◌, Bool, true, false, cond, ◌&&◌, eqb, ltb, Some, None, Option, sym, refl, ap, ◌∙◌, subst, ⊎_elim, arith}
+use Rattle.std.proofs.Common.{◌≡◌, ℕ, ◌/◌, ◌%◌, ◌^◌, ◌<◌, Bool, true, false, ◌&&◌, eqb, ltb, Some, None, Option, sym, refl, ap, ◌∙◌, subst, ⊎_elim, arith}
 use Rattle.std.proofs.lemmas.Bool.Decides.{nat_tests}
 use Rattle.std.proofs.lemmas.Nat.{shr-shr}
 use Rattle.std.proofs.lemmas.Bool.{cond_both, cases_Bool, ltb-true, eqb-true, eqb-false, and_parts}
 use Rattle.words.specs.declared.node.Exit.{Exit}
 use Rattle.words.specs.declared.node.Exit.TheVariants as exit
 use Rattle.words.specs.declared.node.Order.{Order}
-use Rattle.words.specs.declared.node.Pass.{Pass}
 use Rattle.words.specs.declared.word.Kind.{Kind}
 use Rattle.words.specs.declared.word.Kind.TheVariants.{Message, Block, Flow}
 use Rattle.words.specs.declared.word.Word.{Word}
 use Rattle.words.specs.declared.word.Word.TheVariants as word
-use Rattle.words.specs.Format.{read, kind_by, then, mapped, when, place_in, exit_in, repeats_in, head_in, order_in, pass_in, end_in, bit, written, kind_number, exit_number, Allowed, AllowedExit, AllowedOrder, AllowedRepeats}
+use Rattle.words.specs.Format.{read, then, mapped, when, place_in, exit_in, repeats_in, head_in, order_in, pass_in, end_in, bit, written, kind_number, Allowed, AllowedExit, AllowedRepeats}
 use Rattle.words.specs.Laws.{ReadsBack, WritesBack}
 
 -- ### what is written is read back

@@ -1,4 +1,6 @@
 //! The words of an image: what each of its 32-bit words says, and the nodes that they describe.
+#![tactic(auto)]
+
 mod fault;
 mod node;
 mod word;
