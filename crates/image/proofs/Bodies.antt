@@ -1,9 +1,9 @@
 -- The words after a head, read one after another.
-use Rattle.std.proofs.Common.{◌≡◌, ℕ, zero, suc, ◌+◌, ◌^◌, ◌<◌, ◌≤◌, Bool, true, false, cond, ◌||◌, eqb, ltb, ◌⊎◌, List, [], ◌∷◌, ◌++◌, length, get_or, take, drop, Some, None, Ok, Err, Option, Result, sym, refl, ap, ◌∙◌, subst, inl, inr, ⊎_elim, arith}
+use Rattle.std.proofs.Common.{◌≡◌, ℕ, suc, ◌+◌, ◌<◌, ◌≤◌, Bool, true, false, cond, ◌||◌, List, [], ◌∷◌, length, get_or, drop, Some, None, Ok, Err, Option, Result, sym, refl, ap, ◌∙◌, ⊎_elim, arith}
 use Rattle.std.proofs.lemmas.Bool.{cond_below, cond_above, cases_lt}
 use Rattle.std.specs.Option.{ok_or}
 use Rattle.words.specs.declared.fault.Fault.{Fault}
-use Rattle.words.specs.declared.fault.Fault.TheVariants.{BadWord, NotRising, Ragged}
+use Rattle.words.specs.declared.fault.Fault.TheVariants.{BadWord, Ragged}
 use Rattle.words.specs.declared.node.Exit.{Exit}
 use Rattle.words.specs.declared.node.Exit.TheVariants as exit
 use Rattle.words.specs.declared.node.Alternatives.{Alternatives}
@@ -13,12 +13,9 @@ use Rattle.words.specs.declared.node.Body.{Body}
 use Rattle.words.specs.declared.node.Body.TheVariants as body
 use Rattle.words.specs.declared.word.Kind.{Kind}
 use Rattle.words.specs.declared.word.Kind.TheVariants as kinds
-use Rattle.words.specs.declared.word.Word.{Word}
-use Rattle.words.specs.declared.word.Word.TheVariants as word
-use Rattle.words.specs.Format.{read, written, then as maybe}
 use Rattle.words.specs.Exits.{same}
-use Rattle.image.specs.Reading.{then, judged, wanted, place_of, exit_of, time_of, period_of, event_of, target_of, order_of, alternative_of, alternative_in, fresh, message_of, queued_of, flow_of, block_of, alternatives_of, second_of, third_of, rest_of, cut_of, body_of, body_size}
-use Rattle.image.proofs.Wants.{goes, wants, goes_if, goes_or, may, Good, done_good, wants_good, may_good, wants_ok, refuted}
+use Rattle.image.specs.Reading.{then, judged, wanted, place_of, exit_of, time_of, period_of, event_of, target_of, order_of, alternative_of, alternative_in, fresh, queued_of, alternatives_of, second_of, third_of, rest_of, cut_of, body_of, body_size}
+use Rattle.image.proofs.Wants.{goes, wants, goes_if, goes_or, may, Good, done_good, wants_good, may_good}
 
 abbrev pub event_wanted : ℕ → ℕ → List ℕ → ℕ → Result Body Fault
 event_wanted n t = wants event_of (λ e ws at. Ok (body.Message n t e))

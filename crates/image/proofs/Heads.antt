@@ -1,16 +1,16 @@
 -- A head at the front of the words that are left.
-use Rattle.std.proofs.Common.{◌≡◌, ℕ, ◌+◌, ◌<◌, ◌≤◌, Bool, true, false, cond, eqb, ltb, List, [], ◌∷◌, ◌++◌, length, get_or, drop, Some, None, Ok, Err, Option, Result, sym, refl, ap, ◌∙◌, arith}
-use Rattle.std.proofs.lemmas.Bool.{cond_below, cond_above, le-ltb}
+use Rattle.std.proofs.Common.{◌≡◌, ℕ, ◌+◌, ◌<◌, ◌≤◌, cond, List, length, get_or, drop, Some, Ok, Err, Option, Result, sym, ap, ◌∙◌}
+use Rattle.std.proofs.lemmas.Bool.{cond_below, le-ltb}
 use Rattle.std.specs.Option.{ok_or}
 use Rattle.words.specs.declared.fault.Fault.{Fault}
 use Rattle.words.specs.declared.fault.Fault.TheVariants.{BadWord, NotRising, Ragged}
 use Rattle.words.specs.declared.node.Body.{Body}
 use Rattle.words.specs.declared.word.Kind.{Kind}
 use Rattle.words.specs.declared.word.Word.{Word}
-use Rattle.words.specs.declared.word.Word.TheVariants.{Head, End}
+use Rattle.words.specs.declared.word.Word.TheVariants.{Head}
 use Rattle.words.specs.Format.{read}
 use Rattle.image.specs.declared.reader.Placed.{Placed}
-use Rattle.image.specs.Reading.{then, wanted, body_of, node_of, part_of}
+use Rattle.image.specs.Reading.{then, body_of, node_of, part_of}
 
 -- the first word says x
 pub said : (ws : List ℕ) (at floor count : ℕ) (x : Word) → 0 < length ws → read (get_or ws 0 0) ≡ Some x → node_of ws at floor count ≡ part_of ws at floor count x

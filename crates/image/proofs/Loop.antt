@@ -1,10 +1,9 @@
 -- One turn of the reader's loop.
-use Rattle.std.proofs.Common.{◌≡◌, ℕ, suc, ◌+◌, ◌<◌, ◌≤◌, List, length, drop, set, Some, None, Ok, Err, Option, Result, sym, refl, ap, ◌∙◌}
+use Rattle.std.proofs.Common.{◌≡◌, ℕ, suc, ◌+◌, List, drop, set, Some, None, Ok, Err, Option}
 use Rattle.words.specs.declared.fault.Fault.{Fault}
 use Rattle.words.specs.declared.node.Node.{Node}
-use Rattle.image.specs.declared.places.Image.{Image}
 use Rattle.image.specs.declared.reader.Placed.{Placed}
-use Rattle.image.specs.Reading.{then, node_of, part_size, nodes_from}
+use Rattle.image.specs.Reading.{node_of, part_size, nodes_from}
 
 module _ (ws : List ℕ) (at floor count k fuel : ℕ) (places : List (Option Node)) (enough : fuel ≡ suc k) where
   pub one_more : (p : Placed) → Ok (Some p) ≡ node_of (drop at ws) at floor count

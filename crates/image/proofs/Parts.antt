@@ -1,22 +1,16 @@
 -- A node or the end word at the front of the words that are left: every way in which that can go.
-use Rattle.std.proofs.Common.{◌≡◌, ℕ, zero, suc, ◌+◌, ◌<◌, ◌≤◌, Bool, true, false, cond, eqb, ltb, ◌⊎◌, List, [], ◌∷◌, ◌++◌, length, get_or, take, drop, Some, None, Ok, Err, Option, Result, sym, refl, ap, ◌∙◌, subst, inl, inr, ⊎_elim, append_assoc, arith, length-append}
-use Rattle.std.proofs.lemmas.List.{drop_at}
-use Rattle.std.proofs.lemmas.Bool.{cond_below, cond_above, cases_lt, cases_eq, lt-ltb, le-ltb, eq-eqb, ne_eqb}
+use Rattle.std.proofs.Common.{◌≡◌, ℕ, ◌+◌, ◌<◌, ◌≤◌, cond, ltb, List, [], ◌∷◌, length, Some, None, Ok, Err, Option, Result, sym, refl, ap, ◌∙◌, ⊎_elim, arith}
+use Rattle.std.proofs.lemmas.Bool.{cond_below, cases_lt, cases_eq, lt-ltb, eq-eqb, ne_eqb}
 use Rattle.std.specs.Option.{ok_or}
 use Rattle.words.specs.declared.fault.Fault.{Fault}
 use Rattle.words.specs.declared.fault.Fault.TheVariants.{BadWord, NotRising, Ragged}
 use Rattle.words.specs.declared.node.Body.{Body}
-use Rattle.words.specs.declared.node.Node.{Node}
 use Rattle.words.specs.declared.word.Kind.{Kind}
 use Rattle.words.specs.declared.word.Word.{Word}
 use Rattle.words.specs.declared.word.Word.TheVariants as word
-use Rattle.words.specs.Format.{read, written}
-use Rattle.words.proofs.Back.{reads_back, writes_back}
+use Rattle.words.specs.Format.{read}
 use Rattle.image.specs.declared.reader.Placed.{Placed}
-use Rattle.image.specs.Nodes.{kind_of, body_words, node_words, AllowedNode}
-use Rattle.image.specs.Reading.{then, wanted, alternative_of, body_of, body_size, end_of, node_of, part_of, part_size}
-use Rattle.image.proofs.Wants.{Closed, refuted}
-use Rattle.image.proofs.Whole.{body_read, body_back, body_long}
+use Rattle.image.specs.Reading.{then, body_of, node_of, part_of}
 use Rattle.image.proofs.Heads.{said, placed, head_read}
 
 abbrev pub at_place : ℕ → ℕ → Body → Placed

@@ -1,6 +1,6 @@
 -- Words that are put one after another, and the words of the places that are left.
 use Rattle.std.proofs.Common.{◌≡◌, ℕ, ◌+◌, ◌<◌, ◌≤◌, List, [], ◌∷◌, ◌++◌, length, get_or, take, drop, set, Some, None, Option, sym, refl, ap, ◌∙◌, append_assoc, add-zero, zero-add, arith, length-append, length-set, take-append-drop}
-use Rattle.std.proofs.lemmas.List.{at_drop_more, at_drop_all, take_more_set, drop-set-lt}
+use Rattle.std.proofs.lemmas.List.{at_drop_more, take_more_set, drop-set-lt}
 use Rattle.words.specs.declared.node.Node.{Node}
 use Rattle.words.specs.declared.word.Word.TheVariants.{End}
 use Rattle.words.specs.Format.{written}

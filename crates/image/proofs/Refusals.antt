@@ -1,6 +1,6 @@
 -- Where an image is refused: at the end of its longest beginning that some accepted image has, with the number that the rules give.
-use Rattle.std.proofs.Common.{◌≡◌, ℕ, zero, suc, ◌+◌, ◌-◌, ◌<◌, ◌≤◌, ◌⊎◌, List, [], ◌∷◌, ◌++◌, length, get_or, take, drop, set, Some, None, Ok, Err, Option, Result, sym, refl, ap, ◌∙◌, subst, inl, inr, ⊎_elim, append_assoc, append-nil, add-zero, zero-add, arith, length-append}
-use Rattle.std.proofs.lemmas.List.{drop_at, drop_more, get_or_at, take-append-drop, nil_from_length, take-take, length-take-le}
+use Rattle.std.proofs.Common.{◌≡◌, ℕ, zero, suc, ◌+◌, ◌-◌, ◌<◌, ◌≤◌, List, [], ◌∷◌, ◌++◌, length, get_or, take, drop, set, Some, None, Ok, Err, Option, sym, refl, ap, ◌∙◌, subst, inl, inr, ⊎_elim, append_assoc, append-nil, zero-add, arith, length-append}
+use Rattle.std.proofs.lemmas.List.{drop_at, drop_more, get_or_at, take-append-drop, nil_from_length, length-take-le}
 use Rattle.std.proofs.lemmas.Bool.{cases_lt}
 use Rattle.words.specs.declared.fault.Fault.{Fault}
 use Rattle.words.specs.declared.fault.Fault.TheVariants.{BadWord, NotRising, Ragged}
@@ -12,17 +12,15 @@ use Rattle.words.specs.declared.word.Word.TheVariants as word
 use Rattle.words.specs.Faults.{number_of, place_of}
 use Rattle.words.specs.Format.{read, written, then as maybe}
 use Rattle.words.proofs.Back.{writes_back}
-use Rattle.image.specs.declared.places.Image.{Image}
-use Rattle.image.specs.declared.reader.Placed.{Placed}
 use Rattle.image.specs.Nodes.{kind_of, body_words, node_words, nodes_words, image_words, live, Proper}
-use Rattle.image.specs.Reading.{alternative_of, alternative_said, body_of, body_size, node_of, part_size, read_image, nothing}
+use Rattle.image.specs.Reading.{alternative_of, alternative_said, body_of, body_size, node_of, read_image, nothing}
 use Rattle.image.specs.Laws.{Accepted, Begun, Boundary, Miscounted, Followed, Torn, Falling, Refused}
-use Rattle.image.proofs.Wants.{Closed, Fails, Stays, Good, refuted}
+use Rattle.image.proofs.Wants.{Closed, refuted}
 use Rattle.image.proofs.Bodies.{reader, reader_good, body_link}
 use Rattle.image.proofs.Whole.{body_read, body_long}
 use Rattle.image.proofs.Slots.{over, over_above}
 use Rattle.image.proofs.Parts.{Part, missing, strange, falling, broken, whole, miscounted, followed, ended, part, at_place, begins, falls, miscounts, follows}
-use Rattle.image.proofs.Run.{run, run_some, run_none, run_err, run_zero, reads_by, Stands, at_start, one_node, one_words, Front, front, node_long, only_accepted, all_accepted, comes_to, end_back, live_few}
+use Rattle.image.proofs.Run.{run, run_some, run_none, run_err, reads_by, Stands, at_start, one_node, one_words, Front, front, node_long, all_accepted, comes_to, end_back, live_few}
 
 -- ### beginnings of lists
 

@@ -1,10 +1,10 @@
 -- What was written is read back.
-use Rattle.std.proofs.Common.{◌≡◌, ℕ, ◌<◌, ◌≤◌, Bool, true, false, cond, ltb, ◌⊎◌, List, [], ◌∷◌, ◌++◌, length, take, drop, Ok, Err, Option, Result, sym, refl, ap, ◌∙◌, subst, inl, inr, ⊎_elim, arith}
+use Rattle.std.proofs.Common.{◌≡◌, ℕ, ltb, List, ◌++◌, length, take, drop, Ok, Err, Option, Result, sym, refl, ap, ◌∙◌, ⊎_elim}
 use Rattle.std.proofs.lemmas.List.{take_at}
-use Rattle.std.proofs.lemmas.Bool.{cond_below, cond_above, cases_lt, cond-false, le-ltb}
+use Rattle.std.proofs.lemmas.Bool.{cond_below, cases_lt, cond-false, le-ltb}
 use Rattle.words.specs.declared.node.Node.{Node}
 use Rattle.image.specs.declared.places.TooShort.{TooShort}
-use Rattle.image.specs.Nodes.{image_words, live, Proper}
+use Rattle.image.specs.Nodes.{image_words, live}
 use Rattle.image.specs.Reading.{read_image}
 use Rattle.image.specs.Writing.{write_answer, write_leaves}
 use Rattle.image.specs.Laws.{ReadsBack}

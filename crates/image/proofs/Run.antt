@@ -1,21 +1,19 @@
 -- The reader from node to node: accepted images are read, and only they are.
-use Rattle.std.proofs.Common.{◌≡◌, ℕ, zero, suc, ◌+◌, ◌-◌, ◌<◌, ◌≤◌, Bool, true, false, cond, ltb, ◌≢◌, ◌⊎◌, List, [], ◌∷◌, ◌++◌, length, get_or, take, drop, set, replicate, Some, None, Ok, Err, Option, Result, sym, refl, ap, ◌∙◌, subst, inl, inr, ⊎_elim, append_assoc, append-nil, add-zero, arith, length-append, length-set}
-use lib.ListN.{length-replicate}
+use Rattle.std.proofs.Common.{◌≡◌, ℕ, zero, suc, ◌+◌, ◌-◌, ◌<◌, ◌≤◌, ◌⊎◌, List, [], ◌∷◌, ◌++◌, length, get_or, drop, set, replicate, Some, None, Ok, Err, Option, Result, sym, refl, ap, ◌∙◌, subst, inl, inr, append_assoc, arith, length-append, length-set}
 use Rattle.std.proofs.lemmas.List.{drop_at, drop-drop, get_or-set_same, set_at}
-use Rattle.std.proofs.ByRecursion.{All-set, All-append}
+use Rattle.std.proofs.ByRecursion.{All-set}
 use Rattle.std.specs.List.{AllByRecursion as All}
 use Rattle.words.specs.declared.fault.Fault.{Fault}
 use Rattle.words.specs.declared.fault.Fault.TheVariants.{BadWord, NotRising, Ragged}
 use Rattle.words.specs.declared.node.Body.{Body}
 use Rattle.words.specs.declared.node.Node.{Node}
 use Rattle.words.specs.declared.word.Kind.{Kind}
-use Rattle.words.specs.declared.word.Word.{Word}
 use Rattle.words.specs.declared.word.Word.TheVariants as word
 use Rattle.words.specs.Format.{read, written, then as maybe}
 use Rattle.words.proofs.Back.{reads_back, writes_back}
 use Rattle.image.specs.declared.places.Image.{Image}
 use Rattle.image.specs.declared.reader.Placed.{Placed}
-use Rattle.image.specs.Nodes.{kind_of, body_words, node_words, nodes_words, image_words, live, AllowedNode, AllowedPlace, Proper}
+use Rattle.image.specs.Nodes.{kind_of, body_words, node_words, nodes_words, live, AllowedNode, AllowedPlace, Proper}
 use Rattle.image.specs.Reading.{then, alternative_of, alternative_said, body_of, body_size, node_of, part_size, nodes_from, read_image, nothing}
 use Rattle.image.specs.Laws.{Accepted}
 use Rattle.image.proofs.Wants.{Closed, refuted}

@@ -1,12 +1,10 @@
 -- The words after a head are read exactly as what they are written from.
-use Rattle.std.proofs.Common.{◌≡◌, ℕ, zero, suc, ◌+◌, ◌^◌, ◌<◌, ◌≤◌, Bool, true, false, cond, ◌||◌, ◌⊎◌, List, [], ◌∷◌, ◌++◌, length, Some, None, Ok, Err, Option, Result, sym, refl, ap, ◌∙◌, subst, inl, inr, ⊎_elim, arith, length-append}
+use Rattle.std.proofs.Common.{◌≡◌, ℕ, ◌+◌, ◌≤◌, false, List, [], ◌∷◌, ◌++◌, length, Ok, sym, refl, ap, ◌∙◌, subst, ⊎_elim, arith, length-append}
 use Rattle.std.proofs.lemmas.Bool.{or_parts, or_from}
-use Rattle.words.specs.declared.fault.Fault.{Fault}
 use Rattle.words.specs.declared.node.Exit.{Exit}
 use Rattle.words.specs.declared.node.Exit.TheVariants as exit
 use Rattle.words.specs.declared.node.Alternatives.{Alternatives}
 use Rattle.words.specs.declared.node.Alternatives.TheVariants as ways
-use Rattle.words.specs.declared.node.Order.{Order}
 use Rattle.words.specs.declared.node.Body.{Body}
 use Rattle.words.specs.declared.node.Body.TheVariants as body
 use Rattle.words.specs.declared.word.Kind.{Kind}
@@ -16,8 +14,8 @@ use Rattle.words.specs.Format.{written, AllowedExit}
 use Rattle.words.specs.Exits.{same}
 use Rattle.image.specs.Nodes.{kind_of, body_words, alternative_words, Differ, AllowedBody, AllowedAlternatives}
 use Rattle.image.specs.Reading.{place_of, exit_of, time_of, period_of, event_of, target_of, order_of, alternative_of, body_of, body_size, alternatives_size}
-use Rattle.image.proofs.Said.{Is, exit_is, place_is, time_is, period_is, event_is, target_is, order_is, alternative_is, exit_back, place_back, time_back, period_back, event_back, target_back, order_back, alternative_back, same_false, differ_same}
-use Rattle.image.proofs.Wants.{goes, wants, may, wants_ok, wants_some, may_ok, may_none, may_some, Closed}
+use Rattle.image.proofs.Said.{exit_is, place_is, time_is, period_is, event_is, target_is, order_is, alternative_is, exit_back, place_back, time_back, period_back, event_back, target_back, order_back, alternative_back, same_false, differ_same}
+use Rattle.image.proofs.Wants.{wants_ok, wants_some, may_ok, may_none, may_some, Closed}
 use Rattle.image.proofs.Bodies.{message, message_offset, event_wanted, flow, flow_offset, target_wanted, order_wanted, block, period_wanted, used, first, second, third, reader, body_link}
 
 -- ### what is read was written

@@ -10,7 +10,6 @@ use Rattle.words.specs.declared.node.Body.TheVariants as body
 use Rattle.words.specs.declared.node.Node.{Node}
 use Rattle.words.specs.declared.word.Kind.{Kind}
 use Rattle.words.specs.declared.word.Kind.TheVariants as kinds
-use Rattle.words.specs.declared.word.Word.{Word}
 use Rattle.words.specs.declared.word.Word.TheVariants as word
 use Rattle.words.specs.Format.{written, AllowedExit, AllowedOrder}
 

@@ -1,5 +1,5 @@
 -- What is in reach, said in other ways, and what a change of a table does to it.
-use Rattle.std.specs.Prelude.{◌≡◌, ℕ, ◌<◌, Bool, true, List, is_some, Some, None, Option}
+use Rattle.std.specs.Prelude.{◌≡◌, ℕ, ◌<◌, Bool, true, List, is_some, Some, Option}
 use Rattle.words.specs.declared.node.Entry.{Entry}
 use Rattle.words.specs.declared.node.Exit.{Exit}
 use Rattle.words.specs.declared.node.Exit.TheVariants.{Place}

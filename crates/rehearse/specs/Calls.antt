@@ -5,7 +5,6 @@ use Rattle.words.specs.Format.{when, then, mapped}
 use Rattle.rehearse.specs.declared.call.Call.{Call}
 use Rattle.rehearse.specs.declared.call.Call.TheVariants as call
 use Rattle.rehearse.specs.Numbers.{number_in, hexadecimal_in}
-use Rattle.rehearse.specs.Parts.{parts_of}
 
 -- a call with the words that it gives
 pub data Said : Type 0 where

@@ -1,5 +1,5 @@
 -- What each step of the work does to a value; no contract of a public function speaks of it.
-use Rattle.std.specs.Prelude.{◌≡◌, ℕ, zero, suc, ◌+◌, ◌≤◌, true, false, cond, ◌⊎◌, List, length, set, replicate, Some, None, Option, nat_lt, slice_set}
+use Rattle.std.specs.Prelude.{◌≡◌, ℕ, zero, suc, ◌+◌, ◌≤◌, true, false, cond, ◌⊎◌, List, length, replicate, Some, None, Option, nat_lt, slice_set}
 use Rattle.rules.specs.declared.book.Rule.{Rule}
 use Rattle.rules.specs.declared.chain.Chain.{Chain}
 use Rattle.rules.specs.declared.chain.Line.{Line}

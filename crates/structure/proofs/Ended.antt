@@ -1,19 +1,18 @@
 -- Well ended by the book is the same as: the nexts come to a block or an empty place.
-use Rattle.std.proofs.Common.{◌≡◌, ℕ, zero, suc, ◌+◌, ◌<◌, ◌≤◌, Bool, true, false, cond, not, ◌&&◌, ltb, ◌⊎◌, List, [], ◌∷◌, length, get_or, is_some, Some, None, Option, sym, refl, ap, ◌∙◌, subst, inl, inr, ⊎_elim, arith}
+use Rattle.std.proofs.Common.{◌≡◌, ℕ, zero, suc, ◌<◌, ◌≤◌, Bool, true, false, not, ◌&&◌, ltb, List, length, is_some, Some, None, Option, sym, refl, ap, ◌∙◌, subst, ⊎_elim, arith}
 use Rattle.std.proofs.lemmas.List.{get_or_past}
 use Rattle.std.proofs.lemmas.Bool.{cases_lt, cases_Bool, cond-true, lt-ltb, and_parts, and_from, not-true, not_from_false}
 use Rattle.rules.specs.declared.book.Rule.{Rule}
-use Rattle.rules.specs.declared.chain.Line.{Line}
 use Rattle.rules.specs.declared.derived.Derived.{Derived}
-use Rattle.rules.specs.Chain.{line_at, Among, Met, Grounded, Concludes, Lawful, Derivable}
+use Rattle.rules.specs.Chain.{Met, Grounded, Concludes, Derivable}
 use Rattle.rules.specs.Found.{marks, Found}
-use Rattle.rules.specs.Laws.{Closed, Whole}
+use Rattle.rules.specs.Laws.{Whole}
 use Rattle.rules.proofs.Chains.{derivable_in}
 use Rattle.words.specs.declared.node.Node.{Node}
 use Rattle.structure.specs.Nodes.{node_at, onward}
 use Rattle.structure.specs.Structure.{ComesOut, WellEnded, Endless}
 use Rattle.structure.specs.Endings.{no_rule, ground_to, ground_of, rule_by, ending_rule, endings_book, EndedAlike}
-use Rattle.structure.specs.Lowest.{Nowhere, Lowest, FoundLowest, Yes}
+use Rattle.structure.specs.Lowest.{FoundLowest, Yes}
 
 -- ### the book
 

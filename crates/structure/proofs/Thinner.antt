@@ -1,12 +1,12 @@
 -- Emptying places makes no flaw.
-use Rattle.std.proofs.Common.{◌≡◌, ℕ, zero, suc, ◌<◌, Bool, true, false, not, ◌⊎◌, List, Some, None, Option, sym, refl, ap, ◌∙◌, subst, inl, inr, ⊎_elim, arith}
+use Rattle.std.proofs.Common.{◌≡◌, ℕ, zero, suc, Bool, true, false, ◌⊎◌, List, Some, None, Option, sym, ap, ◌∙◌, subst, ⊎_elim}
 use Rattle.words.specs.declared.node.Body.{Body}
 use Rattle.words.specs.declared.node.Body.TheVariants.{Message, Block, Flow}
 use Rattle.words.specs.declared.node.Exit.{Exit}
 use Rattle.words.specs.declared.node.Node.{Node}
 use Rattle.structure.specs.Nodes.{node_at, onward}
-use Rattle.structure.specs.Structure.{outruns, body_late, node_late, late, misses, body_unlisted, node_unlisted, unlisted, ComesOut, WellEnded, Endless}
-use Rattle.structure.specs.Lowest.{Nowhere, Yes}
+use Rattle.structure.specs.Structure.{outruns, body_late, node_late, late, misses, body_unlisted, node_unlisted, unlisted, ComesOut, WellEnded}
+use Rattle.structure.specs.Lowest.{Yes}
 use Rattle.structure.specs.Flaws.{Flawless}
 
 -- each place is as it was, or empty

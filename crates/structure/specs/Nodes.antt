@@ -1,5 +1,5 @@
 -- What is asked of the node at a place.
-use Rattle.std.specs.Prelude.{ℕ, Bool, true, false, ◌||◌, List, Some, None, Option, slice_index_or}
+use Rattle.std.specs.Prelude.{ℕ, Bool, false, ◌||◌, List, Some, None, Option, slice_index_or}
 use Rattle.words.specs.declared.node.Alternatives.{Alternatives}
 use Rattle.words.specs.declared.node.Alternatives.TheVariants as ways
 use Rattle.words.specs.declared.node.Body.{Body}

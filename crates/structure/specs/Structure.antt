@@ -1,5 +1,5 @@
 -- The three flaws of structure, each a property of one place among the nodes of a table.
-use Rattle.std.specs.Prelude.{◌≡◌, ℕ, zero, suc, Bool, true, false, not, List, Some, None, Option, nat_le, nat_lt}
+use Rattle.std.specs.Prelude.{◌≡◌, ℕ, zero, suc, Bool, false, not, List, Some, None, Option, nat_le, nat_lt}
 use Rattle.words.specs.declared.node.Body.{Body}
 use Rattle.words.specs.declared.node.Body.TheVariants.{Message, Block, Flow}
 use Rattle.words.specs.declared.node.Exit.{Exit}

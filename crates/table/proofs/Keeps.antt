@@ -1,5 +1,5 @@
 -- What keeps a table sound.
-use Rattle.std.proofs.Common.{◌≡◌, ℕ, zero, suc, ◌+◌, ◌<◌, ◌≤◌, Bool, true, false, cond, ◌&&◌, ◌⊎◌, List, [], ◌∷◌, length, get_or, take, replicate, is_some, Some, None, Ok, Err, Option, Result, sym, refl, ap, ◌∙◌, subst, inl, inr, ⊎_elim, arith}
+use Rattle.std.proofs.Common.{◌≡◌, ℕ, zero, suc, Bool, true, false, ◌&&◌, ◌⊎◌, List, [], ◌∷◌, length, replicate, is_some, Some, None, Ok, Err, Option, Result, sym, refl, ap, ◌∙◌, subst, inl, inr, arith}
 use Rattle.std.specs.List.{AllByRecursion as All}
 use Rattle.words.specs.declared.node.Node.{Node}
 use Rattle.image.specs.declared.places.TooShort.{TooShort}
@@ -8,7 +8,7 @@ use Rattle.image.proofs.Run.{only_accepted}
 use Rattle.image.specs.Nodes.{Proper, AllowedPlace, image_words, live}
 use Rattle.each.specs.Each.{zipped}
 use Rattle.structure.specs.Nodes.{node_at, onward}
-use Rattle.structure.specs.Structure.{late, node_late, unlisted, node_unlisted, Endless}
+use Rattle.structure.specs.Structure.{node_late, node_unlisted}
 use Rattle.structure.specs.Lowest.{Nowhere, Yes}
 use Rattle.structure.specs.Flaws.{Flawless}
 use Rattle.structure.proofs.Thinner.{Thinner, thinner_flawless}

@@ -1,5 +1,5 @@
 -- At most one answer and one table after it fit a load.
-use Rattle.std.proofs.Common.{◌≡◌, ℕ, ◌<◌, ◌⊎◌, List, Some, None, Ok, Err, Option, Result, sym, refl, ap, ◌∙◌, subst, inl, inr, ⊎_elim, arith}
+use Rattle.std.proofs.Common.{◌≡◌, ℕ, List, Some, Ok, Err, Option, Result, sym, refl, ap, ◌∙◌, subst, ⊎_elim, arith}
 use Rattle.std.proofs.lemmas.Bool.{cases_order}
 use Rattle.words.specs.declared.fault.Fault as words
 use Rattle.words.specs.declared.node.Node.{Node}
@@ -7,7 +7,7 @@ use Rattle.image.specs.declared.places.Image.{Image}
 use Rattle.image.specs.Reading.{read_image}
 use Rattle.structure.specs.declared.judge.Flaw as flaws
 use Rattle.structure.specs.declared.judge.Flaw.TheVariants.{Late, Loop, Listing}
-use Rattle.structure.specs.Lowest.{Nowhere, Lowest, Yes}
+use Rattle.structure.specs.Lowest.{Nowhere, Lowest}
 use Rattle.structure.specs.Flaws.{Flawless, Told}
 use Rattle.table.specs.declared.fault.Fault.{Fault}
 use Rattle.table.specs.declared.fault.Fault.TheVariants.{Words, Taken, Flaw}

@@ -1,5 +1,5 @@
 -- What loading an image into a table answers, and what the table is then.
-use Rattle.std.specs.Prelude.{◌≡◌, ℕ, List, Some, None, Ok, Err, Option, Result}
+use Rattle.std.specs.Prelude.{◌≡◌, ℕ, List, Some, Ok, Err, Option, Result}
 use Rattle.words.specs.declared.node.Node.{Node}
 use Rattle.image.specs.declared.places.Image.{Image}
 use Rattle.image.specs.Reading.{read_image}

@@ -1,7 +1,6 @@
 -- Tables, and what loading and emptying make of them.
 use Rattle.std.specs.Prelude.{ℕ, Bool, false, cond, ◌&&◌, List, replicate, is_some, Some, None, Option, ◌==◌}
 use Rattle.words.specs.declared.node.Node.{Node}
-use Rattle.image.specs.declared.places.Image.{Image}
 use Rattle.rows.specs.Rows.{empty_row, forgotten}
 use Rattle.lanes.specs.Lanes.{idle_lanes}
 use Rattle.each.specs.Each.{zipped}

@@ -1,4 +1,4 @@
-use Rattle.std.proofs.Common.{◌≡◌, ◌≤◌, length}
+use Rattle.std.proofs.Common.{◌≡◌}
 use Rattle.each.specs.Each.{zipped}
 use Rattle.each.proofs.Zips.{part}
 use Rattle.each.proofs.change_each.Given as goal

@@ -1,11 +1,10 @@
-use Rattle.std.proofs.Common.{◌≡◌, ℕ, ◌-◌, ◌<◌, ◌≤◌, min, List, ◌++◌, length, take, drop, sym, ap, ◌∙◌, subst, ⊎_elim, arith}
+use Rattle.std.proofs.Common.{◌≡◌, ℕ, ◌-◌, min, List, ◌++◌, length, take, drop, sym, ap, ◌∙◌, subst, ⊎_elim, arith}
 use Rattle.std.proofs.lemmas.List.{take_at, take_all, length-take-le}
 use Rattle.std.proofs.lemmas.Bool.{cases_lt}
 use Rattle.table.specs.Tables.{cleared}
 use Rattle.table.specs.Loading.{Loads}
 use Rattle.readout.specs.Bytes.{packed}
 use Rattle.readout.proofs.Packing.{length-packed}
-use Rattle.panel.specs.Shown.{Shown}
 use Rattle.panel.proofs.judged.Goals as goal
 
 -- the part of the memory that was written is the front of what was to be written

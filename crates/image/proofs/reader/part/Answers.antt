@@ -1,10 +1,10 @@
-use Rattle.std.proofs.Common.{◌≡◌, ◌+◌, ◌<◌, ◌≤◌, length, get_or, drop, Some, Ok, Err, sym, ap, ◌∙◌, arith, length-drop, rules}
+use Rattle.std.proofs.Common.{◌≡◌, ◌+◌, ◌≤◌, length, get_or, drop, Some, Ok, Err, sym, ap, ◌∙◌, arith, length-drop, rules}
 use Rattle.std.proofs.lemmas.List.{take_rest}
 use Rattle.std.proofs.lemmas.Result.{err_from_is_err_and}
 use Rattle.words.specs.declared.word.Word.TheVariants.{Head}
 use Rattle.words.specs.Format.{read}
 use Rattle.words.proofs.Back.{writes_back}
-use Rattle.image.specs.Reading.{body_of, body_size}
+use Rattle.image.specs.Reading.{body_of}
 use Rattle.image.proofs.Whole.{body_fits}
 use Rattle.image.proofs.Heads.{head_read}
 use Rattle.image.proofs.reader.part.Goals as goal

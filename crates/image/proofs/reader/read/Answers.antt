@@ -1,4 +1,4 @@
-use Rattle.std.proofs.Common.{◌≡◌, sym, ◌∙◌}
+use Rattle.std.proofs.Common.{sym, ◌∙◌}
 use Rattle.image.proofs.Run.{only_accepted, all_accepted}
 use Rattle.image.proofs.Refusals.{refused}
 use Rattle.image.proofs.reader.read.Goals as goal

@@ -1,7 +1,7 @@
-use Rattle.std.proofs.Common.{◌≡◌, ◌+◌, ◌≤◌, length, get_or, drop, None, sym, ap, ◌∙◌, arith}
+use Rattle.std.proofs.Common.{length, sym, ◌∙◌, arith}
 use Rattle.std.proofs.lemmas.List.{at_drop_all}
 use Rattle.image.specs.Nodes.{nodes_words}
-use Rattle.image.specs.Writing.{puts, slot_words}
+use Rattle.image.specs.Writing.{puts}
 use Rattle.image.proofs.Puts.{size_more, puts_more}
 use Rattle.image.proofs.writer.put_nodes.Goals as goal
 

@@ -1,4 +1,3 @@
-use Rattle.std.proofs.Common.{◌≡◌, sym, ap, ◌∙◌}
 use Rattle.image.proofs.Round.{written_back}
 use Rattle.image.proofs.writer.write.Goals as goal
 

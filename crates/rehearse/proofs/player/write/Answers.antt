@@ -1,4 +1,4 @@
-use Rattle.std.proofs.Common.{◌≡◌, min, cond, length, vec_items, sym, ap, ◌∙◌, arith}
+use Rattle.std.proofs.Common.{◌≡◌, min, cond, length, vec_items, sym, ap, ◌∙◌}
 use lib.ListN.{length-replicate}
 use Rattle.image.specs.Nodes.{image_words}
 use Rattle.rehearse.specs.Answers.{wrote, not_written, short_refusal}
