@@ -1,5 +1,5 @@
 -- What becomes of a permit whose check is open.
-use Rattle.std.proofs.Common.{◌≡◌, ℕ, Bool, true, cond, Ok, sym, refl, ap, ◌∙◌}
+use Rattle.std.proofs.Common.{◌≡◌, ℕ, Bool, true, cond, Ok, ap, ◌∙◌}
 use Rattle.table.specs.declared.state.Table.{Table}
 use Rattle.calls.specs.Calls.{removed, permit_told, is_open, Remove}
 

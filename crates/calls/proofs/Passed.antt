@@ -3,11 +3,10 @@ use Rattle.std.proofs.Common.{◌≡◌, ℕ, ◌<◌, ◌≤◌, Bool, true, fa
 use Rattle.table.specs.declared.state.Table.{Table}
 use Rattle.table.specs.Changes.{is_urgent, row_of, rows_at}
 use Rattle.reach.specs.declared.line.Line.{Line}
-use Rattle.words.specs.declared.node.Entry.{Entry}
 use Rattle.words.specs.Format.{entry_of}
 use Rattle.calls.specs.declared.fault.Fault.{Fault}
 use Rattle.steps.specs.Limits.{has_room}
-use Rattle.calls.specs.Refusals.{or_else, argument, lines_enough, not_busy, word_fault, entry_in, listed, room_for, command_refusal}
+use Rattle.calls.specs.Refusals.{or_else, argument, lines_enough, not_busy, word_fault, entry_in, listed, command_refusal}
 use Rattle.calls.specs.Judging.{Tested}
 use Rattle.calls.specs.Trials.{unless}
 

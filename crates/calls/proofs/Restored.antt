@@ -1,5 +1,5 @@
 -- What is put back is as it was.
-use Rattle.std.proofs.Common.{◌≡◌, ℕ, ◌<◌, Bool, true, false, cond, List, get_or, set, sym, refl, ap, ◌∙◌, set-set, lt-ltb}
+use Rattle.std.proofs.Common.{◌≡◌, ℕ, ◌<◌, Bool, true, false, cond, List, get_or, set, ap, ◌∙◌, set-set, lt-ltb}
 use lib.Seq.{set-get_or}
 use Rattle.lanes.specs.declared.lane.Lane.{Lane}
 use Rattle.lanes.specs.declared.lane.LaneCall.TheVariants.{Start}

@@ -16,7 +16,8 @@ use words::Entry;
 
 /// Lets the entry wait where no lane can come to an empty place then; otherwise the rows are put back as they were.
 fn try_entry(table: &mut Table, block: u16, entry: Entry, chain: &mut [Line]) -> Result<(), Fault>
-    requires { (has_room (row_of (rows_at table.old block) (is_urgent entry)) ≡ true) × (512 ≤ length chain.old) }
+    requires room { has_room (row_of (rows_at table.old block) (is_urgent entry)) ≡ true }
+    requires memory { 512 ≤ length chain.old }
     ensures judged { Allows (scene_of (queued table.old block entry)) result chain.old chain.new }
     ensures after { table.new ≡ (if is_ok result then queued table.old block entry else table.old) }
 {

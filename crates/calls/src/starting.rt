@@ -18,7 +18,9 @@ fn start_idle(
     tick: u64,
     chain: &mut [Line],
 ) -> Result<(), Fault>
-    requires { (lane < 8) × (((lane_at table.old.lanes lane).state ≡ Idle) × (512 ≤ length chain.old)) }
+    requires within { lane < 8 }
+    requires idle { (lane_at table.old.lanes lane).state ≡ Idle }
+    requires memory { 512 ≤ length chain.old }
     ensures { Judged (started table.old lane place tick) result table.old table.new chain.old chain.new }
 {
     let mut lanes = table.lanes;

@@ -62,7 +62,9 @@ pub(crate) fn try_start(
     tick: u64,
     chain: &mut [Line],
 ) -> Result<(), Fault>
-    requires { (lane < 8) × (((lane_at lanes.old lane).state ≡ Idle) × (512 ≤ length chain.old)) }
+    requires within { lane < 8 }
+    requires idle { (lane_at lanes.old lane).state ≡ Idle }
+    requires memory { 512 ≤ length chain.old }
     ensures judged { Allows (with_lanes table.now (running lanes.old lane place tick)) result chain.old chain.new }
     ensures after { lanes.new ≡ (if is_ok result then running lanes.old lane place tick else lanes.old) }
 {

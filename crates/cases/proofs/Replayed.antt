@@ -1,7 +1,7 @@
 -- Acts with the answers that are computed, and that acts which have those answers hold.
 use Rattle.std.proofs.Common.{◌≡◌, Bool, true, ◌&&◌, List, [], ◌∷◌, map, length, sym, refl, subst}
 use Rattle.std.proofs.lemmas.Bool.{and_parts}
-use Rattle.std.specs.List.{AllByRecursion as All}
+use Rattle.std.specs.List.{AllByRecursion}
 use Rattle.structure.specs.Nodes.{node_at}
 use Rattle.table.specs.declared.state.Table.{Table}
 use Rattle.table.specs.Tables.{cleared}
@@ -137,12 +137,12 @@ replay_holds case h =
       settled = replay_settled cleared o case.acts h o (record { each = λ x. refl; all = refl; fixed = refl }) blank_memory refl;
     }
 
-replays_hold : (cs : List Case) → every sure_case cs ≡ true → All Holds (map replayed_case cs)
+replays_hold : (cs : List Case) → every sure_case cs ≡ true → AllByRecursion Holds (map replayed_case cs)
 replays_hold [] h = tt
 replays_hold (case ∷ cs) h =
     let a = and_parts (sure_case case) (every sure_case cs) h in
     (replay_holds case a.0, replays_hold cs a.1)
 
 -- cases whose answers are those that are computed, on grounds that stood up, hold
-pub all_hold : (cs : List Case) → every sure_case cs ≡ true → map replayed_case cs ≡ cs → All Holds cs
-all_hold cs h same = subst (All Holds) same (replays_hold cs h)
+pub all_hold : (cs : List Case) → every sure_case cs ≡ true → map replayed_case cs ≡ cs → AllByRecursion Holds cs
+all_hold cs h same = subst (AllByRecursion Holds) same (replays_hold cs h)

@@ -1,6 +1,6 @@
 -- Worked cases, each a list of calls with their answers.
 use Rattle.std.specs.Prelude.{ℕ, false, List, [], ◌∷◌, Some, Ok, Err, Result}
-use Rattle.std.specs.List.{AllByRecursion as All}
+use Rattle.std.specs.List.{AllByRecursion}
 use Rattle.words.specs.declared.node.Alternatives.TheVariants as ways
 use Rattle.words.specs.declared.node.Body.TheVariants as body
 use Rattle.words.specs.declared.node.Entry.{Entry}
@@ -166,4 +166,4 @@ cases =
 
 -- every case holds
 unfoldable pub AllHold : Type 0
-AllHold = All Holds cases
+AllHold = AllByRecursion Holds cases

@@ -2,7 +2,7 @@
 use Rattle.std.proofs.Common.{◌≡◌, ℕ, zero, suc, ◌+◌, ◌-◌, ◌<◌, ◌≤◌, ◌⊎◌, List, [], ◌∷◌, ◌++◌, length, get_or, drop, set, replicate, Some, None, Ok, Err, Option, Result, sym, refl, ap, ◌∙◌, subst, inl, inr, append_assoc, arith, length-append, length-set}
 use Rattle.std.proofs.lemmas.List.{drop_at, drop-drop, get_or-set_same, set_at}
 use Rattle.std.proofs.ByRecursion.{All-set}
-use Rattle.std.specs.List.{AllByRecursion as All}
+use Rattle.std.specs.List.{AllByRecursion}
 use Rattle.words.specs.declared.fault.Fault.{Fault}
 use Rattle.words.specs.declared.fault.Fault.TheVariants.{BadWord, NotRising, Ragged}
 use Rattle.words.specs.declared.node.Body.{Body}
@@ -83,7 +83,7 @@ pub record Stands (floor count : ℕ) (places : List (Option Node)) : Type 0 whe
   pub number : count ≡ live places
   pub last : (floor ≡ 0) ⊎ ((q : ℕ) × (node : Node) × (floor ≡ q + 1) × (get_or places q None ≡ Some node))
 
-none_allowed : (n : ℕ) → All AllowedPlace (replicate n None)
+none_allowed : (n : ℕ) → AllByRecursion AllowedPlace (replicate n None)
 none_allowed zero = tt
 none_allowed (suc n) = (tt, none_allowed n)
 
@@ -198,7 +198,7 @@ head_back q node l fine = (reads_back (word.Head (kind_of node.body) node.patter
 pub end_back : (n : ℕ) → n ≤ 512 → read (written (word.End n)) ≡ Some (word.End n)
 end_back n h = (reads_back (word.End n) (omega arith)).0
 
-pub closed_words : (q : ℕ) (xs : List (Option Node)) (tail : List ℕ) → q + length xs ≤ 512 → All AllowedPlace xs → Closed alternative_of tail → Closed alternative_of (nodes_words q xs ++ tail)
+pub closed_words : (q : ℕ) (xs : List (Option Node)) (tail : List ℕ) → q + length xs ≤ 512 → AllByRecursion AllowedPlace xs → Closed alternative_of tail → Closed alternative_of (nodes_words q xs ++ tail)
 closed_words q [] tail l fine c = c
 closed_words q (None ∷ xs) tail l fine c = closed_words (q + 1) xs tail (omega arith) fine.1 c
 closed_words q (Some node ∷ xs) tail l fine c = ap (λ o. maybe o alternative_said) (head_back q node (omega arith) fine.0)
@@ -213,7 +213,7 @@ same_run : {k k' count count' at at' : ℕ} (floor : ℕ) {places places' : List
     → run k floor count places rest at ≡ run k' floor count' places' rest' at'
 same_run floor a b c d e = cc
 
-pub goes_over : (xs done : List (Option Node)) (q floor count k : ℕ) (tail : List ℕ) (at : ℕ) → length done ≡ q → floor ≤ q → q + length xs ≡ 512 → All AllowedPlace xs → Closed alternative_of tail
+pub goes_over : (xs done : List (Option Node)) (q floor count k : ℕ) (tail : List ℕ) (at : ℕ) → length done ≡ q → floor ≤ q → q + length xs ≡ 512 → AllByRecursion AllowedPlace xs → Closed alternative_of tail
     → run (live xs + k) floor count (done ++ replicate (length xs) None) (nodes_words q xs ++ tail) at ≡ run k (over floor q xs) (count + live xs) (done ++ xs) tail (at + length (nodes_words q xs))
 goes_over [] done q floor count k tail at d f e fine c = same_run floor (omega arith) (omega arith) refl refl (omega arith)
 goes_over (None ∷ xs) done q floor count k tail at d f e fine c =

@@ -1,6 +1,6 @@
 -- The words of nodes and of images, and which nodes are allowed.
 use Rattle.std.specs.Prelude.{◌≡◌, ℕ, ◌+◌, ◌^◌, ◌<◌, ◌≤◌, List, [], ◌∷◌, ◌++◌, length, Some, None, Option}
-use Rattle.std.specs.List.{AllByRecursion as All}
+use Rattle.std.specs.List.{AllByRecursion}
 use Rattle.words.specs.declared.node.Exit.{Exit}
 use Rattle.words.specs.declared.node.Exit.TheVariants.{Place}
 use Rattle.words.specs.declared.node.Alternatives.{Alternatives}
@@ -78,4 +78,4 @@ AllowedPlace (Some node) = AllowedNode node
 -- 512 places, each empty or with an allowed node
 pub record Proper (places : List (Option Node)) : Type 0 where
   pub count : length places ≡ 512
-  pub each : All AllowedPlace places
+  pub each : AllByRecursion AllowedPlace places

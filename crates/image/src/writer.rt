@@ -168,7 +168,8 @@ fn live(places: &[Option<Node>]) -> usize
 
 /// Writes the nodes of all places, each with its head, and tells the position after them.
 fn put_nodes(out: &mut [u32], places: &[Option<Node>]) -> usize
-    requires { (length places.now ≤ 512) × (length (nodes_words 0 places.now) ≤ length out.old) }
+    requires few { length places.now ≤ 512 }
+    requires room { length (nodes_words 0 places.now) ≤ length out.old }
     ensures value { result ≡ length (nodes_words 0 places.now) }
     ensures after { out.new ≡ puts out.old 0 (nodes_words 0 places.now) }
 {

@@ -28,7 +28,7 @@ mod examples {
         what: &str,
     ) -> Result<(), Fail> {
         match read(words) {
-            Ok(_) => Err(Fail::new("accepted")),
+            Ok(_) => Err(Fail::new(format_args!("accepted: {what}"))),
             Err(fault) => {
                 assert_eq!(rt; fault.number(), number, "{what}");
                 assert_eq!(rt; fault.place(), position, "{what}");

@@ -65,7 +65,8 @@ impl<'a> EarliestDue<'a> {
 
     /// The first slot, of the first `len`, of a message that none in them goes before.
     fn soonest(&self, len: usize) -> usize
-        requires { (0 < len) × (len ≤ places self.now) }
+        requires some { 0 < len }
+        requires within { len ≤ places self.now }
         ensures { IsFirstBest before self.now.slots.now len result }
     {
         let mut best = 0;
@@ -79,7 +80,8 @@ impl<'a> EarliestDue<'a> {
 
     /// Hands out the message in slot `at`, and moves the one in slot `last`, behind which none waits, to that slot.
     fn remove(&mut self, at: usize, last: usize) -> Message
-        requires { (at < places self.old) × (last < places self.old) }
+        requires at_in { at < places self.old }
+        requires last_in { last < places self.old }
         ensures answer { result ≡ slice_index_or self.old.slots.now at blank }
         ensures slots { self.new.slots.now ≡ slice_set self.old.slots.now at (slice_index_or self.old.slots.now last blank) }
         ensures len { self.new.len ≡ last }

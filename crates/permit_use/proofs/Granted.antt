@@ -1,5 +1,5 @@
 -- What a granted check leaves.
-use Rattle.std.proofs.Common.{◌≡◌, ℕ, List, length, Some, None, Ok, Err, Option, Result, arith}
+use Rattle.std.proofs.Common.{◌≡◌, ℕ, List, length, Some, None, Ok, Option, arith}
 use Rattle.table.specs.declared.state.Table.{Table}
 use Rattle.table.specs.Changes.{check_changed}
 use Rattle.reach.specs.declared.line.Line.{Line}

@@ -1,7 +1,7 @@
 //! A player loads images and writes them.
 ghost use Rattle.std.specs.Prelude.{◌≡◌, ◌≤◌, min, length, IfOk};
 ghost use Rattle.image.specs.Nodes.{image_words};
-ghost use Rattle.script.specs.Calls.{load as LoadSaid};
+ghost use Rattle.script.specs.Calls.{load as load_said};
 ghost use Rattle.player.specs.Playing.{Plays, write_told};
 ghost use Rattle.player.specs.Stages.{stage_of};
 ghost use Rattle.player.specs.Told.{told};
@@ -28,7 +28,7 @@ fn useful(nodes: &[Option<Node>; 512], room: usize) -> usize
 impl<O: Outlet> Player<O> {
     /// Loads the image of the words.
     pub(crate) fn load(&mut self, heap: Global, words: &[u32]) -> Answer
-        ensures { Plays O.Outlet.waits O.Outlet.total O.Outlet.capacity (stage_of self.old) (LoadSaid words.now) (told result) (stage_of self.new) }
+        ensures { Plays O.Outlet.waits O.Outlet.total O.Outlet.capacity (stage_of self.old) (load_said words.now) (told result) (stage_of self.new) }
     {
         match self.sequencer.load(words) {
             Ok(nodes) => Answer::Loaded(nodes),

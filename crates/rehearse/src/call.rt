@@ -2,7 +2,7 @@
 ghost use Rattle.std.specs.Prelude.{◌≡◌, IfOk};
 ghost use Rattle.std.specs.Str.{bytes_eq};
 ghost use Rattle.words.specs.Format.{mapped};
-ghost use Rattle.rehearse.specs.Calls.{said, remark, words_in, argument_in, below_in, call_in, load as LoadSaid, write as write_said, lane as lane_said, row as row_said};
+ghost use Rattle.rehearse.specs.Calls.{said, remark, words_in, argument_in, below_in, call_in, load as load_said, write as write_said, lane as lane_said, row as row_said};
 ghost use Rattle.rehearse.specs.Parts.{parts_of};
 
 use crate::number::{decimal, hexadecimal};
@@ -45,7 +45,7 @@ pub fn is_same(part: &[u8], name: &[u8]) -> bool
 }
 
 fn load(heap: Global, parts: Parts) -> Result<Option<Call>, AllocError>
-    ensures { IfOk result (λ o. mapped said o ≡ mapped LoadSaid (words_in (parts_of parts.entry.rest.now))) }
+    ensures { IfOk result (λ o. mapped said o ≡ mapped load_said (words_in (parts_of parts.entry.rest.now))) }
 {
     let mut words = Vec::new(heap);
     for part in parts {

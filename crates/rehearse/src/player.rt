@@ -3,7 +3,7 @@ ghost use Rattle.std.specs.Prelude.{◌≡◌, ◌≤◌, min, length, IfOk};
 ghost use Rattle.image.specs.Nodes.{image_words};
 ghost use Rattle.table.specs.Tables.{cleared};
 ghost use Rattle.rehearse.specs.Answers.{told, write_told, lane_told, rows_at, rows_told, Plays, Played};
-ghost use Rattle.rehearse.specs.Calls.{said, load as LoadSaid};
+ghost use Rattle.rehearse.specs.Calls.{said, load as load_said};
 
 use crate::answer::{Answer, Refusal};
 use crate::call::Call;
@@ -23,7 +23,7 @@ const IDLE: Lane = Lane {
 
 /// Loads the image of the words into the table.
 fn load(table: &mut Table, words: &[u32]) -> Answer
-    ensures { Plays table.old (LoadSaid words.now) (told result) table.new }
+    ensures { Plays table.old (load_said words.now) (told result) table.new }
 {
     match table.load(words) {
         Ok(nodes) => Answer::Loaded(nodes),

@@ -1,5 +1,5 @@
 -- The calls of a script, as its lines give them.
-use Rattle.std.specs.Prelude.{ℕ, Bool, true, false, cond, List, [], ◌∷◌, Some, None, vec_items, Option, ◌==◌, nat_lt}
+use Rattle.std.specs.Prelude.{ℕ, Bool, true, false, List, [], ◌∷◌, Some, None, vec_items, Option, ◌==◌, nat_lt}
 use Rattle.words.specs.Format.{when, then, mapped}
 use Rattle.script.specs.declared.call.Call.{Call}
 use Rattle.script.specs.declared.call.Call.TheVariants as call
@@ -7,7 +7,6 @@ use Rattle.script.specs.declared.name.Name.{Name}
 use Rattle.script.specs.declared.name.Name.TheVariants as name
 use Rattle.script.specs.Names.{name_in}
 use Rattle.script.specs.Numbers.{decimal_in, hexadecimal_in}
-use Rattle.script.specs.Parts.{parts_of}
 
 -- a call with the words that it gives
 pub data Said : Type 0 where

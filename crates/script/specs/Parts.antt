@@ -1,5 +1,5 @@
 -- A line of a script, and its parts between spaces and tabs.
-use Rattle.std.specs.Prelude.{ℕ, suc, ◌-◌, Bool, true, false, cond, ◌||◌, List, [], ◌∷◌, length, take, ◌==◌, slice_index}
+use Rattle.std.specs.Prelude.{ℕ, suc, ◌-◌, Bool, true, cond, ◌||◌, List, [], ◌∷◌, length, take, ◌==◌, slice_index}
 use Rattle.std.specs.Bool.{beq}
 
 -- without a byte that may stand at the end

@@ -1,7 +1,7 @@
 //! The calls of a script, as its lines give them.
 ghost use Rattle.std.specs.Prelude.{◌≡◌, IfOk, Some, None, MatchOption, ◌≢◌};
 ghost use Rattle.words.specs.Format.{when, mapped};
-ghost use Rattle.script.specs.Calls.{said, remark, alone, only_in, words_in, argument_in, below_in, start_in, command_in, call_of, call_in, load as LoadSaid};
+ghost use Rattle.script.specs.Calls.{said, remark, alone, only_in, words_in, argument_in, below_in, start_in, command_in, call_of, call_in, load as load_said};
 ghost use Rattle.script.specs.Parts.{parts_of};
 
 use crate::name::{Name, name_of};
@@ -66,7 +66,7 @@ pub fn is_remark(line: &[u8]) -> bool
 }
 
 fn load(heap: Global, parts: Parts) -> Result<Option<Call>, AllocError>
-    ensures { IfOk result (λ o. mapped said o ≡ mapped LoadSaid (words_in (parts_of parts.entry.rest.now))) }
+    ensures { IfOk result (λ o. mapped said o ≡ mapped load_said (words_in (parts_of parts.entry.rest.now))) }
 {
     let mut words = Vec::new(heap);
     for part in parts {

@@ -5,12 +5,12 @@ use Rattle.table.specs.declared.state.Table.{Table}
 use Rattle.table.specs.Tables.{cleared}
 use Rattle.uses.specs.Uses.{Event, Use, clear}
 use Rattle.uses.proofs.Law.{law}
-use Rattle.sequencer.specs.Going.{Begins, Goes_on}
+use Rattle.sequencer.specs.Going.{Begins, GoesOn}
 
 module _ {O : Type 0} (waits : O → Message → ℕ) (total capacity : O → ℕ) where
   pub begins : (o : O) → Begins waits total capacity o
   begins o none = let u = clear none in (u, law waits total capacity cleared o [] u)
 
   pub goes_on : (t : Table) (o : O) (event : Event) (t' : Table) (o' : O)
-      → ((h : List Event) → Use waits total capacity t o h → Use waits total capacity t' o' (event ∷ h)) → Goes_on waits total capacity t o event t' o'
+      → ((h : List Event) → Use waits total capacity t o h → Use waits total capacity t' o' (event ∷ h)) → GoesOn waits total capacity t o event t' o'
   goes_on t o event t' o' more h u = let v = more h u in (v, law waits total capacity t' o' (event ∷ h) v)

@@ -12,5 +12,5 @@ module _ {O : Type 0} (waits : O → Message → ℕ) (total capacity : O → �
   Begins o = Vacant waits total capacity o → Use waits total capacity cleared o [] × Holds waits cleared o []
 
   -- whatever calls led to a table and an outlet, with this event they lead to these, and the law holds there
-  abbrev pub Goes_on : Table → O → Event → Table → O → Type 0
-  Goes_on t o event t' o' = (h : List Event) → Use waits total capacity t o h → Use waits total capacity t' o' (event ∷ h) × Holds waits t' o' (event ∷ h)
+  abbrev pub GoesOn : Table → O → Event → Table → O → Type 0
+  GoesOn t o event t' o' = (h : List Event) → Use waits total capacity t o h → Use waits total capacity t' o' (event ∷ h) × Holds waits t' o' (event ∷ h)

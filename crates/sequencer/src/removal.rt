@@ -4,7 +4,7 @@ ghost use Rattle.calls.specs.Calls.{Check, Remove, Release};
 ghost use Rattle.calls.specs.Permits.{permit_pattern, fault_told, HandedBack};
 ghost use Rattle.uses.specs.Uses.{quiet};
 ghost use Rattle.uses.specs.Law.{Law};
-ghost use Rattle.sequencer.specs.Going.{Goes_on};
+ghost use Rattle.sequencer.specs.Going.{GoesOn};
 
 use crate::owner::Sequencer;
 use calls::{Fault, Permit, Refused};
@@ -17,7 +17,7 @@ impl<O: Outlet> Sequencer<O> {
     pub fn check(&mut self, pattern: u32, chain: &mut [Line]) -> Result<Permit, Fault>
         ensures exact { Check self.old.table pattern (permit_pattern result) self.new.table chain.old chain.new }
         ensures outlet { self.new.outlet ≡ self.old.outlet }
-        ensures goes_on { Goes_on O.Outlet.waits O.Outlet.total O.Outlet.capacity self.old.table self.old.outlet quiet self.new.table self.new.outlet }
+        ensures goes_on { GoesOn O.Outlet.waits O.Outlet.total O.Outlet.capacity self.old.table self.old.outlet quiet self.new.table self.new.outlet }
     {
         calls::check(&mut self.table, pattern, chain)
     }
@@ -28,7 +28,7 @@ impl<O: Outlet> Sequencer<O> {
         ensures exact { Remove self.old.table permit.pattern (fault_told result) self.new.table }
         ensures handed_back { HandedBack permit result }
         ensures outlet { self.new.outlet ≡ self.old.outlet }
-        ensures goes_on { Goes_on O.Outlet.waits O.Outlet.total O.Outlet.capacity self.old.table self.old.outlet quiet self.new.table self.new.outlet }
+        ensures goes_on { GoesOn O.Outlet.waits O.Outlet.total O.Outlet.capacity self.old.table self.old.outlet quiet self.new.table self.new.outlet }
         ensures law { Law O.Outlet.waits O.Outlet.total O.Outlet.capacity }
     {
         calls::remove(&mut self.table, permit)
@@ -39,7 +39,7 @@ impl<O: Outlet> Sequencer<O> {
         ensures exact { Release self.old.table permit.pattern (fault_told result) self.new.table }
         ensures handed_back { HandedBack permit result }
         ensures outlet { self.new.outlet ≡ self.old.outlet }
-        ensures goes_on { Goes_on O.Outlet.waits O.Outlet.total O.Outlet.capacity self.old.table self.old.outlet quiet self.new.table self.new.outlet }
+        ensures goes_on { GoesOn O.Outlet.waits O.Outlet.total O.Outlet.capacity self.old.table self.old.outlet quiet self.new.table self.new.outlet }
     {
         calls::release(&mut self.table, permit)
     }

@@ -14,7 +14,7 @@ use Rattle.outlets.specs.declared.message.Message.{Message}
 use Rattle.table.specs.declared.state.Table.{Table}
 use Rattle.table.specs.Changes.{rows_at}
 use Rattle.steps.specs.Limits.{limit}
-use Rattle.steps.specs.Steps.{Stepped, stepped, stopped, stayed, may_send, on_message, takes_order, on_flow, ruling, way, leaving, on_block, on_body, on_place, on_state}
+use Rattle.steps.specs.Steps.{Stepped, stepped, may_send, on_message, takes_order, on_flow, ruling, way, leaving, on_block, on_body, on_place, on_state}
 use Rattle.steps.specs.declared.answer.Step.{Step}
 use Rattle.steps.specs.Walking.{LaneSteps}
 use Rattle.steps.specs.Answers.{On, OnMessage, OnFlow, OnBlock, Leaves, Means, Says}

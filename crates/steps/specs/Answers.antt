@@ -1,6 +1,5 @@
 -- What each answer of a step says: where the lane was, and what has become of the table.
 use Rattle.std.specs.Prelude.{◌≡◌, ℕ, ◌+◌, true, false, leb, ◌⊎◌, Some, None, Option, nat_le}
-use Rattle.words.specs.declared.node.Body.{Body}
 use Rattle.words.specs.declared.node.Body.TheVariants as body
 use Rattle.words.specs.declared.node.Alternatives.{Alternatives}
 use Rattle.words.specs.declared.node.Entry.TheVariants as entry

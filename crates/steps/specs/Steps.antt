@@ -1,5 +1,5 @@
 -- What a step of a lane answers, what it makes of the table, and what it offers to the outlet.
-use Rattle.std.specs.Prelude.{ℕ, ◌+◌, Bool, true, false, cond, ◌&&◌, Some, None, Option, nat_le, nat_lt}
+use Rattle.std.specs.Prelude.{ℕ, ◌+◌, Bool, cond, ◌&&◌, Some, None, Option, nat_le, nat_lt}
 use Rattle.words.specs.declared.node.Body.{Body}
 use Rattle.words.specs.declared.node.Body.TheVariants as body
 use Rattle.words.specs.declared.node.Entry.{Entry}
@@ -17,7 +17,7 @@ use Rattle.rows.specs.Rows.{first_of, spent, left}
 use Rattle.structure.specs.Nodes.{node_at}
 use Rattle.table.specs.declared.state.Rows.{Rows}
 use Rattle.table.specs.declared.state.Table.{Table}
-use Rattle.table.specs.Changes.{lane_changed, state_changed, node_changed, rows_changed, is_urgent, row_of, rows_at, queued, turned}
+use Rattle.table.specs.Changes.{lane_changed, state_changed, node_changed, rows_changed, row_of, rows_at, queued, turned}
 use Rattle.reach.specs.Book.{is_block}
 use Rattle.outlets.specs.declared.message.Message.{Message}
 use Rattle.steps.specs.declared.answer.Step.{Step}

@@ -1,6 +1,6 @@
 -- What keeps a table sound.
 use Rattle.std.proofs.Common.{◌≡◌, ℕ, zero, suc, Bool, true, false, ◌&&◌, ◌⊎◌, List, [], ◌∷◌, length, replicate, is_some, Some, None, Ok, Err, Option, Result, sym, refl, ap, ◌∙◌, subst, inl, inr, arith}
-use Rattle.std.specs.List.{AllByRecursion as All}
+use Rattle.std.specs.List.{AllByRecursion}
 use Rattle.words.specs.declared.node.Node.{Node}
 use Rattle.image.specs.declared.places.TooShort.{TooShort}
 use Rattle.image.specs.Laws.{ReadsBack}
@@ -26,7 +26,7 @@ none_at zero p = refl
 none_at (suc n) zero = refl
 none_at (suc n) (suc p) = none_at n p
 
-none_allowed : (n : ℕ) → All AllowedPlace (replicate n None)
+none_allowed : (n : ℕ) → AllByRecursion AllowedPlace (replicate n None)
 none_allowed zero = tt
 none_allowed (suc n) = (tt, none_allowed n)
 
@@ -57,7 +57,7 @@ zipped_long f [] ys = refl
 zipped_long f (x ∷ xs) [] = refl
 zipped_long f (x ∷ xs) (y ∷ ys) = ap suc (zipped_long f xs ys)
 
-merged_allowed : (old new : List (Option Node)) → All AllowedPlace old → All AllowedPlace new → All AllowedPlace (merged old new)
+merged_allowed : (old new : List (Option Node)) → AllByRecursion AllowedPlace old → AllByRecursion AllowedPlace new → AllByRecursion AllowedPlace (merged old new)
 merged_allowed [] new a b = tt
 merged_allowed (x ∷ old) [] a b = a
 merged_allowed (x ∷ old) (y ∷ new) a b = (over_allowed x y a.0 b.0, merged_allowed old new a.1 b.1)
@@ -77,7 +77,7 @@ without_thinner (x ∷ nodes) [] p = inr refl
 without_thinner (x ∷ nodes) (m ∷ marks) zero = without_cases x m
 without_thinner (x ∷ nodes) (m ∷ marks) (suc p) = without_thinner nodes marks p
 
-without_allowed : (nodes : List (Option Node)) (marks : List Bool) → All AllowedPlace nodes → All AllowedPlace (zipped without nodes marks)
+without_allowed : (nodes : List (Option Node)) (marks : List Bool) → AllByRecursion AllowedPlace nodes → AllByRecursion AllowedPlace (zipped without nodes marks)
 without_allowed [] marks a = tt
 without_allowed (x ∷ nodes) [] a = a
 without_allowed (x ∷ nodes) (true ∷ marks) a = (tt, without_allowed nodes marks a.1)

@@ -48,7 +48,9 @@ pub enum Word {
 
 /// The `size` bits of `w` from bit `low` up.
 fn field(w: u32, low: u32, size: u32) -> u32
-    requires { (low + size ≤ 32) × ((0 < size) × (size < 32)) }
+    requires within { low + size ≤ 32 }
+    requires some { 0 < size }
+    requires few { size < 32 }
     ensures { result ≡ w / 2 ^ low % 2 ^ size }
 {
     w >> low & (1 << size) - 1
@@ -56,7 +58,8 @@ fn field(w: u32, low: u32, size: u32) -> u32
 
 /// The place that the low `size` bits name.
 fn place_in(w: u32, size: u32) -> Option<u16>
-    requires { (0 < size) × (size < 32) }
+    requires some { 0 < size }
+    requires few { size < 32 }
     ensures { result ≡ place_in w size }
 {
     let low = field(w, 0, size);
@@ -65,7 +68,8 @@ fn place_in(w: u32, size: u32) -> Option<u16>
 
 /// The place that the low `size` bits name, or the end.
 fn exit_in(w: u32, size: u32) -> Option<Exit>
-    requires { (0 < size) × (size < 32) }
+    requires some { 0 < size }
+    requires few { size < 32 }
     ensures { result ≡ exit_in w size }
 {
     let low = field(w, 0, size);

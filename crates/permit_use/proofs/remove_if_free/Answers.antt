@@ -1,4 +1,4 @@
-use Rattle.std.proofs.Common.{◌≡◌, ℕ, Bool, true, false, ap, ◌∙◌, arith}
+use Rattle.std.proofs.Common.{◌≡◌, ℕ, ap, ◌∙◌, arith}
 use Rattle.table.specs.declared.state.Table.{Table}
 use Rattle.calls.specs.Calls.{removed}
 use Rattle.permit_use.proofs.Granted.{granted}

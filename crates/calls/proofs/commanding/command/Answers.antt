@@ -16,7 +16,7 @@ try_entry-requires c =
     let given = unless_ok (command_refusal t b c.args.word lines) (entry_in c.args.word) c.in-Ok.entry c.in-Ok.ensures in
     let known = commandable t b c.args.word lines given.0 in
     let Room : Entry → Type 0 = λ e. has_room (row_of (rows_at t b) (is_urgent e)) ≡ true in
-    (subst Room (sym given.1) known.room, known.memory)
+    record { room = subst Room (sym given.1) known.room; memory = known.memory }
 
 pub returns-in-Ok : goal.returns-in-Ok
 returns-in-Ok c =

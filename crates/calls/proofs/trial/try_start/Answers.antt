@@ -16,7 +16,7 @@ returns c =
     let tick = c.args.tick in
     let parts = c.new-trial.ensures.parts in
     let tried : c.call.new.self ≡ running lanes i place tick =
-    c.call.ensures.after ∙ ap (λ (l : Lanes Lane). call_leaves l i (Start place tick)) parts.0 ∙ started_lanes lanes i place tick c.requires.0 c.requires.1.0 in
+    c.call.ensures.after ∙ ap (λ (l : Lanes Lane). call_leaves l i (Start place tick)) parts.0 ∙ started_lanes lanes i place tick c.requires.within c.requires.idle in
     let back : cond (is_ok c.judge-answer.result) c.call.new.self (with_lane c.call.new.self i c.new-trial.result.before) ≡ cond (is_ok c.judge-answer.result) (running lanes i place tick) lanes =
     lane_back lanes c.call.new.self i (record { state = Running place tick; sent = (lane_at lanes i).sent }) c.new-trial.result.before _ tried parts.1.1.0 in
     let P : Lanes Lane → Type 0 = λ l. Allows (with_lanes c.args.table.now l) c.judge-answer.result c.args.chain.now c.judge-answer.new.chain in

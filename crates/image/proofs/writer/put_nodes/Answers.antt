@@ -8,7 +8,7 @@ use Rattle.image.proofs.writer.put_nodes.Goals as goal
 pub put_slot-at-requires : goal.put_slot-at-requires
 put_slot-at-requires c =
     let more = size_more c.args.places.now c.loop-place.place c.loop-place-test.true in
-    omega (arith, c.loop-place.invariant.0, c.requires.1)
+    omega (arith, c.loop-place.invariant.0, c.requires.room)
 
 pub loop-place-preserved : goal.loop-place-preserved
 loop-place-preserved c =

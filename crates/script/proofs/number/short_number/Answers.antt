@@ -1,4 +1,4 @@
-use Rattle.std.proofs.Common.{◌≡◌, sym, ap, ◌∙◌}
+use Rattle.std.proofs.Common.{ap, ◌∙◌}
 use Rattle.words.specs.Format.{then}
 use Rattle.script.specs.Numbers.{fitting}
 use Rattle.script.proofs.Values.{narrowed}

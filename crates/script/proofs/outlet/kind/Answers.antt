@@ -1,4 +1,4 @@
-use Rattle.std.proofs.Common.{◌≡◌, Bool, true, false, cond, Some, None, codes, sym, ap, ◌∙◌}
+use Rattle.std.proofs.Common.{◌≡◌, true, false, cond, Some, None, codes, sym, ap, ◌∙◌}
 use Rattle.std.specs.Str.{bytes_eq}
 use Rattle.script.specs.declared.outlet.OutletKind.TheVariants.{FirstIn, EarliestDue}
 use Rattle.script.proofs.outlet.kind.Goals as goal
