@@ -1,7 +1,7 @@
 -- The words that bytes fill: how many there are, and what stands at each place.
-use Rattle.std.proofs.Common.{◌≡◌, ℕ, zero, suc, ◌+◌, ◌-◌, ◌*◌, ◌/◌, ◌<◌, ◌≤◌, min, List, [], ◌∷◌, ◌++◌, length, get_or, take, drop, set, sym, refl, ap, ◌∙◌, arith}
+use Rattle.std.proofs.Common.{◌≡◌, ℕ, zero, suc, ◌+◌, ◌*◌, ◌<◌, List, [], ◌∷◌, ◌++◌, length, get_or, take, drop, set, sym, refl, ap, ◌∙◌, arith}
 use Rattle.std.proofs.lemmas.List.{take_more, drop_more, set_at, append_assoc, length-take-le}
-use Rattle.calls_readout.specs.Bytes.{word, first_word, words_in, packed}
+use Rattle.calls_readout.specs.Bytes.{first_word, words_in, packed}
 
 pub length-packed : (bytes : List ℕ) → length (packed bytes) ≡ words_in bytes
 length-packed [] = refl

@@ -1,5 +1,5 @@
 -- A list of places that is closed under the grounds of a scene has every place that is in reach there.
-use Rattle.std.proofs.Common.{◌≡◌, ℕ, Bool, true, cond, not, ◌&&◌, ltb, ◌⊎◌, List, Some, None, Option, sym, refl, ap, ◌∙◌, ⊎_elim}
+use Rattle.std.proofs.Common.{◌≡◌, ℕ, Bool, true, cond, not, ◌&&◌, ltb, List, Some, None, Option, sym, refl, ap, ◌∙◌, ⊎_elim}
 use Rattle.std.proofs.lemmas.Bool.{and_parts, both_ways, not-true, lt-ltb, cond-true}
 use Rattle.words.specs.declared.node.Body.{Body}
 use Rattle.words.specs.declared.node.Body.TheVariants as body

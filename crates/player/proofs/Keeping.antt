@@ -1,5 +1,5 @@
 -- What calls keep: the open check, and all of a table where they are refused.
-use Rattle.std.proofs.Common.{◌≡◌, ℕ, ◌+◌, Bool, true, false, cond, ltb, leb, List, ◌++◌, length, take, drop, is_ok, IfOk, Some, None, Ok, Err, Option, Result, sym, refl, ap, ◌∙◌, subst, MatchResult}
+use Rattle.std.proofs.Common.{◌≡◌, ℕ, ◌+◌, Bool, true, false, ltb, leb, List, ◌++◌, length, take, drop, is_ok, IfOk, Some, None, Ok, Err, Option, Result, sym, refl, ap, ◌∙◌, subst, MatchResult}
 use Rattle.std.proofs.lemmas.List.{take_at}
 use borrow.Author.Tests.{clash}
 use Rattle.std.proofs.lemmas.Bool.{cond_both}
@@ -19,7 +19,7 @@ use Rattle.steps.specs.declared.answer.Step.{Step}
 use Rattle.calls.specs.declared.fault.Fault.{Fault}
 use Rattle.calls.specs.declared.fault.Fault.TheVariants.{Range, Memory, Busy, Below, State, Row, Bare, Permit}
 use Rattle.calls.specs.Judging.{Tested, Judged}
-use Rattle.steps.specs.Steps.{Stepped, stepped, on_state, on_place, on_body, on_message, on_flow, on_block, may_send, takes_order}
+use Rattle.steps.specs.Steps.{Stepped, stepped, on_state, on_place, on_body, may_send, takes_order}
 use Rattle.steps.specs.Limits.{limit}
 use Rattle.calls.specs.Refusals.{start_refusal, command_refusal, check_refusal, entry_in}
 use Rattle.calls.specs.Calls.{started, Start, Command, Checked, Check, StepsIf, Steps}

@@ -1,5 +1,5 @@
 -- The permit in hand, and what calls leave of it.
-use Rattle.std.proofs.Common.{◌≡◌, ℕ, true, false, Some, None, Ok, Option, Result, sym, refl, subst, eqb-true}
+use Rattle.std.proofs.Common.{◌≡◌, ℕ, true, Some, None, Ok, Option, Result, sym, refl, subst, eqb-true}
 use borrow.Author.Tests.{clash}
 use Rattle.table.specs.declared.state.Table.{Table}
 use Rattle.calls.specs.declared.fault.Fault.{Fault}

@@ -1,5 +1,5 @@
 -- A call leads from a use to a use that is one call longer, and the law holds there.
-use Rattle.std.specs.Prelude.{ℕ, List, [], ◌∷◌, Ok, Err, Result}
+use Rattle.std.specs.Prelude.{ℕ, List, [], ◌∷◌}
 use Rattle.outlets.specs.declared.message.Message.{Message}
 use Rattle.table.specs.declared.state.Table.{Table}
 use Rattle.table.specs.Tables.{cleared}

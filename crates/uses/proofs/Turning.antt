@@ -14,7 +14,7 @@ use Rattle.words.specs.Format.{AllowedExit}
 use Rattle.image.specs.Nodes.{AllowedAlternatives, AllowedBody, AllowedNode}
 use Rattle.image.proofs.Said.{same_true}
 use Rattle.structure.specs.Nodes.{node_at, onward, among, body_lists}
-use Rattle.structure.specs.Structure.{outruns, body_late, node_late, late, misses, body_unlisted, node_unlisted, ComesOut}
+use Rattle.structure.specs.Structure.{outruns, body_late, node_late, misses, body_unlisted, node_unlisted, ComesOut}
 use Rattle.structure.specs.Flaws.{Flawless}
 use Rattle.table.specs.Changes.{exchanged, turned}
 use Rattle.calls.specs.Refusals.{may_wait}

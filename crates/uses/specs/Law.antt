@@ -1,14 +1,12 @@
 -- What holds after any calls.
-use Rattle.std.specs.Prelude.{◌≡◌, ℕ, ◌+◌, ◌<◌, ◌≤◌, true, List, length, Some, None, Ok, Err, Option, Result}
-use Rattle.words.specs.declared.node.Entry.{Entry}
-use Rattle.words.specs.declared.node.Entry.TheVariants as entry
+use Rattle.std.specs.Prelude.{◌≡◌, ℕ, ◌+◌, ◌<◌, ◌≤◌, true, List, length, Some, None, Ok, Err, Result}
 use Rattle.lanes.specs.declared.lane.LaneState.{LaneState}
 use Rattle.lanes.specs.declared.lane.LaneState.TheVariants.{Idle, Running, Held}
 use Rattle.lanes.specs.Lanes.{lane_at}
 use Rattle.rows.specs.declared.plain.PlainRow.{PlainRow}
 use Rattle.rows.specs.Rows.{slot, Canonical}
 use Rattle.image.specs.Nodes.{image_words, live}
-use Rattle.structure.specs.Nodes.{node_at, lists}
+use Rattle.structure.specs.Nodes.{node_at}
 use Rattle.outlets.specs.declared.message.Message.{Message}
 use Rattle.table.specs.declared.state.Table.{Table}
 use Rattle.table.specs.Tables.{cleared, loaded}

@@ -1,5 +1,5 @@
 -- All that calls, one after another, lead to.
-use Rattle.std.specs.Prelude.{◌≡◌, ℕ, ◌+◌, Bool, true, false, List, [], ◌∷◌, Some, None, Ok, Err, Option, Result}
+use Rattle.std.specs.Prelude.{◌≡◌, ℕ, ◌+◌, List, [], ◌∷◌, Some, None, Ok, Err, Option, Result}
 use Rattle.lanes.specs.declared.lane.LaneCall.TheVariants.{Hold, Resume, Abort}
 use Rattle.outlets.specs.declared.message.Message.{Message}
 use Rattle.outlets.specs.Messages.{one}

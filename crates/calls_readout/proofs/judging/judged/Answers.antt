@@ -1,11 +1,10 @@
-use Rattle.std.proofs.Common.{◌≡◌, ℕ, ◌-◌, ◌<◌, ◌≤◌, min, List, ◌++◌, length, take, drop, sym, ap, ◌∙◌, subst, ⊎_elim, arith}
+use Rattle.std.proofs.Common.{◌≡◌, ℕ, ◌-◌, min, List, ◌++◌, length, take, drop, sym, ap, ◌∙◌, subst, ⊎_elim, arith}
 use Rattle.std.proofs.lemmas.List.{take_at, take_all, length-take-le}
 use Rattle.std.proofs.lemmas.Bool.{cases_lt}
 use Rattle.table.specs.Tables.{cleared}
 use Rattle.calls.specs.Calls.{Load}
 use Rattle.calls_readout.specs.Bytes.{packed}
 use Rattle.calls_readout.proofs.Packing.{length-packed}
-use Rattle.calls_readout.specs.Shown.{Shown}
 use Rattle.calls_readout.proofs.judging.judged.Goals as goal
 
 -- the part of the memory that was written is the front of what was to be written

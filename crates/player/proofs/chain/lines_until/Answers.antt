@@ -1,4 +1,4 @@
-use Rattle.std.proofs.Common.{◌≡◌, ◌≢◌, arith, eq-eqb, ne_eqb}
+use Rattle.std.proofs.Common.{arith, eq-eqb, ne_eqb}
 use Rattle.player.proofs.Ending.{found, passed, through}
 use Rattle.player.proofs.chain.lines_until.Goals as goal
 

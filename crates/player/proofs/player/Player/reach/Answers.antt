@@ -1,4 +1,4 @@
-use Rattle.std.proofs.Common.{◌≡◌, ℕ, Some, None, vec_items, refl, ap, ◌∙◌, subst}
+use Rattle.std.proofs.Common.{◌≡◌, Some, None, vec_items, refl, ap, ◌∙◌, subst}
 use Rattle.reach.specs.Scenes.{scene_of}
 use Rattle.reach.specs.Verdicts.{Verdict}
 use Rattle.player.specs.Memory.{until}

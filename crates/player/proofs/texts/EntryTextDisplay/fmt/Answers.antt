@@ -1,4 +1,4 @@
-use Rattle.std.proofs.Common.{◌≡◌, true, cond, ◌++◌, is_ok, codes, sym, ap, ◌∙◌, subst, append_assoc, rules}
+use Rattle.std.proofs.Common.{◌≡◌, true, cond, is_ok, sym, ap, ◌∙◌, subst, append_assoc, rules}
 use Rattle.std.specs.Fmt.{IsPlainFormatter, HasWritten}
 use Rattle.player.specs.Texts.{lasting_text, order_text, entry_text}
 use Rattle.player.proofs.texts.EntryTextDisplay.fmt.Goals as goal

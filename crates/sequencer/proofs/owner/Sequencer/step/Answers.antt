@@ -1,4 +1,3 @@
-use Rattle.std.proofs.Common.{refl}
 use Rattle.uses.specs.Uses as uses
 use Rattle.sequencer.proofs.Going.{goes_on}
 use Rattle.sequencer.proofs.owner.Sequencer.step.Goals as goal
