@@ -15,7 +15,7 @@ import sys
 # a character of a name, as the language of specifications has them
 CHAR = r"[^\s(){}\[\],;.\"`]"
 # names that the prover makes: goals, steps, measures, invariants
-MADE = re.compile(r"^(returns|loop|invariant|decreases|ghost|overflow|bounds|offset|nonzero|slice_bounds|clause)-|-requires(-|$)|^spent_places-")
+MADE = re.compile(r"^(returns|loop|invariant|decreases|ghost|overflow|bounds|offset|nonzero|slice_bounds|clause)-|-requires(-|$)")
 # lemmas that are named after two functions keep their dash
 TWO = {
     "length-packed": "length-packed",
