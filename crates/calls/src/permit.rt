@@ -1,5 +1,5 @@
 //! Permits to take a pattern out of a table.
-ghost use Rattle.std.specs.Prelude.{◌≡◌};
+ghost use Rattle.std.specs.Prelude.{◌≡◌, true};
 ghost use Rattle.calls.specs.declared.fault.Fault.TheVariants.{Permit as the_permit};
 
 use crate::fault::Fault;
@@ -7,14 +7,18 @@ use crate::fault::Fault;
 /// A permit to remove a pattern. It is used by `remove` or `release`, and cannot be let go otherwise.
 pub struct Permit {
     pattern: u8,
+    used: bool,
 }
 
-// Whoever let a permit go would have to show what nothing shows.
+// Whoever lets a permit go has to show that it was used, which no contract says of a permit that is held.
 impl Drop for Permit {
     fn drop(self)
-        requires { ⊥ }
+        requires { self.used ≡ true }
     {
-        let Permit { pattern: _ } = self;
+        let Permit {
+            pattern: _,
+            used: _,
+        } = self;
     }
 }
 
@@ -23,7 +27,10 @@ impl Permit {
     pub(crate) fn of(pattern: u8) -> Permit
         ensures { result.pattern ≡ pattern }
     {
-        Permit { pattern }
+        Permit {
+            pattern,
+            used: false,
+        }
     }
 
     /// The pattern that may be removed.
@@ -33,9 +40,9 @@ impl Permit {
         self.pattern
     }
 
-    /// Takes the permit apart, so that it need not be let go.
-    pub(crate) fn spend(self) {
-        let Permit { pattern: _ } = self;
+    /// Uses the permit up, so that it may be let go.
+    pub(crate) fn spend(mut self) {
+        self.used = true;
     }
 }
 
@@ -47,19 +54,18 @@ pub struct Refused {
 
 impl Drop for Refused {
     fn drop(self)
-        requires { ⊥ }
+        requires { self.permit.used ≡ true }
     {
-        let Refused {
-            fault: _,
-            permit: _,
-        } = self;
+        let Refused { fault: _, permit } = self;
+        drop(permit);
     }
 }
 
 impl Refused {
     /// Hands the permit back: its pattern is not the open one.
     pub(crate) fn of(permit: Permit) -> Refused
-        ensures { (result.fault ≡ the_permit permit.pattern) × (result.permit ≡ permit) }
+        ensures why { result.fault ≡ the_permit permit.pattern }
+        ensures back { result.permit ≡ permit }
     {
         let fault = Fault::Permit(permit.pattern);
         Refused { fault, permit }
@@ -67,7 +73,8 @@ impl Refused {
 
     /// Why the permit was refused, and the permit.
     pub fn parts(self) -> (Fault, Permit)
-        ensures { (result.0 ≡ self.fault) × (result.1 ≡ self.permit) }
+        ensures why { result.0 ≡ self.fault }
+        ensures back { result.1 ≡ self.permit }
     {
         let Refused { fault, permit } = self;
         (fault, permit)
