@@ -1,5 +1,5 @@
 //! Checking that no lane can come into a pattern, and removing it.
-ghost use Rattle.std.specs.Prelude.{◌≡◌, ◌≤◌, length, None};
+ghost use Rattle.std.specs.Prelude.{◌≡◌, ◌≤◌, false, length, IfOk, None};
 ghost use Rattle.table.specs.Changes.{check_changed};
 ghost use Rattle.calls.specs.Calls.{Checked, Check, is_open, removed, Remove, Release};
 ghost use Rattle.calls.specs.Permits.{permit_pattern, fault_told, HandedBack, SaysNode};
@@ -25,7 +25,8 @@ fn has_node(table: &Table, pattern: u8) -> bool
 
 fn check_pattern(table: &mut Table, pattern: u8, chain: &mut [Line]) -> Result<Permit, Fault>
     requires { 512 ≤ length chain.old }
-    ensures { Checked table.old pattern (permit_pattern result) table.new chain.old chain.new }
+    ensures told { Checked table.old pattern (permit_pattern result) table.new chain.old chain.new }
+    ensures unused { IfOk result (λ permit. permit.used ≡ false) }
 {
     if let Some(place) = used_place(table, pattern, chain) {
         return Err(Fault::Below(reach::Fault::Reach(place)));
@@ -40,7 +41,8 @@ fn check_pattern(table: &mut Table, pattern: u8, chain: &mut [Line]) -> Result<P
 /// Opens the check of a pattern that no lane can come into, and gives the permit to remove it.
 /// A refusal changes nothing but the chain memory, which holds the chain that shows where lanes can come to.
 pub fn check(table: &mut Table, pattern: u32, chain: &mut [Line]) -> Result<Permit, Fault>
-    ensures { Check table.old pattern (permit_pattern result) table.new chain.old chain.new }
+    ensures told { Check table.old pattern (permit_pattern result) table.new chain.old chain.new }
+    ensures unused { IfOk result (λ permit. permit.used ≡ false) }
 {
     match check_refusal(table, pattern, chain.len()) {
         Some(fault) => Err(fault),

@@ -1,5 +1,5 @@
 //! Permits to take a pattern out of a table.
-ghost use Rattle.std.specs.Prelude.{◌≡◌, true};
+ghost use Rattle.std.specs.Prelude.{◌≡◌, true, false};
 ghost use Rattle.calls.specs.declared.fault.Fault.TheVariants.{Permit as the_permit};
 
 use crate::fault::Fault;
@@ -23,9 +23,10 @@ impl Drop for Permit {
 }
 
 impl Permit {
-    /// The permit for a pattern.
+    /// The permit for a pattern, which is not used yet.
     pub(crate) fn of(pattern: u8) -> Permit
-        ensures { result.pattern ≡ pattern }
+        ensures pattern { result.pattern ≡ pattern }
+        ensures unused { result.used ≡ false }
     {
         Permit {
             pattern,

@@ -1,5 +1,5 @@
 //! The calls by which a part of the programme is removed.
-ghost use Rattle.std.specs.Prelude.{◌≡◌};
+ghost use Rattle.std.specs.Prelude.{◌≡◌, false, IfOk};
 ghost use Rattle.calls.specs.Calls.{Check, Remove, Release};
 ghost use Rattle.calls.specs.Permits.{permit_pattern, fault_told, HandedBack};
 ghost use Rattle.uses.specs.Uses.{quiet};
@@ -16,6 +16,7 @@ impl<O: Outlet> Sequencer<O> {
     /// `release`.
     pub fn check(&mut self, pattern: u32, chain: &mut [Line]) -> Result<Permit, Fault>
         ensures exact { Check self.old.table pattern (permit_pattern result) self.new.table chain.old chain.new }
+        ensures unused { IfOk result (λ permit. permit.used ≡ false) }
         ensures outlet { self.new.outlet ≡ self.old.outlet }
         ensures goes_on { GoesOn O.Outlet.waits O.Outlet.total O.Outlet.capacity self.old.table self.old.outlet quiet self.new.table self.new.outlet }
     {
