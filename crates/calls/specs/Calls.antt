@@ -8,6 +8,7 @@ use Rattle.lanes.specs.declared.record.LaneFault.TheVariants as lane_fault
 use Rattle.lanes.specs.Lanes.{call_answer, call_leaves}
 use Rattle.image.specs.Nodes.{image_words}
 use Rattle.outlets.specs.declared.message.Message.{Message}
+use Rattle.outlets.specs.Meaning.{Meaning}
 use Rattle.outlets.specs.declared.request.Request.TheVariants as request
 use Rattle.outlets.specs.Meaning as outlet
 use Rattle.outlets.specs.Replies.{took}
@@ -119,10 +120,10 @@ Release t pattern answer after =
 
 -- ### step and take
 
-module _ {O : Type 0} (waits : O → Message → ℕ) (total capacity : O → ℕ) where
+module _ {O : Type 0} (meaning : Meaning O) where
   abbrev pub StepsIf : Bool → Table → O → ℕ → Result Step Fault → Table → O → Type 0
   StepsIf true t o lane answer after_t after_o =
-      (accepted : Bool) × Offers waits total capacity (offer_of t lane) o accepted after_o × (answer ≡ Ok (stepped accepted t lane).answer) × (after_t ≡ (stepped accepted t lane).table)
+      (accepted : Bool) × Offers meaning (offer_of t lane) o accepted after_o × (answer ≡ Ok (stepped accepted t lane).answer) × (after_t ≡ (stepped accepted t lane).table)
   StepsIf false t o lane answer after_t after_o = (answer ≡ Err (Range 0)) × (after_t ≡ t) × (after_o ≡ o)
 
   -- there is no lane above 7
@@ -131,4 +132,4 @@ module _ {O : Type 0} (waits : O → Message → ℕ) (total capacity : O → �
 
   -- a take leaves the table alone
   abbrev pub Takes : O → Option Message → O → Type 0
-  Takes o answer after = outlet.Step waits total capacity o request.Take (took answer) after
+  Takes o answer after = outlet.Step meaning o request.Take (took answer) after

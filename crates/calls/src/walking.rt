@@ -8,7 +8,7 @@ use table::Table;
 
 /// Lets a lane take one step, and says what it came to; there is no lane above 7.
 pub fn step<O: Outlet>(table: &mut Table, outlet: &mut O, lane: u32) -> Result<Step, Fault>
-    ensures { Steps O.Outlet.waits O.Outlet.total O.Outlet.capacity table.old outlet.old lane result table.new outlet.new }
+    ensures { Steps O.Outlet.meaning table.old outlet.old lane result table.new outlet.new }
 {
     match steps::step(table, outlet, lane as usize) {
         Some(step) => Ok(step),
@@ -18,7 +18,7 @@ pub fn step<O: Outlet>(table: &mut Table, outlet: &mut O, lane: u32) -> Result<S
 
 /// Hands out a message that waits in the outlet, or nothing where none does.
 pub fn take<O: Outlet>(outlet: &mut O) -> Option<Message>
-    ensures { Takes O.Outlet.waits O.Outlet.total O.Outlet.capacity outlet.old result outlet.new }
+    ensures { Takes O.Outlet.meaning outlet.old result outlet.new }
 {
     outlet.take()
 }

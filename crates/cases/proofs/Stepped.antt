@@ -21,13 +21,13 @@ use Rattle.calls.specs.declared.fault.Fault.TheVariants.{Range}
 use Rattle.steps.specs.Steps.{stepped, offer_of, may_send, on_body, on_place, on_state, body_offer, place_offer, state_offer}
 use Rattle.steps.specs.Walking.{Offers}
 use Rattle.calls.specs.Calls.{StepsIf, Steps, Takes}
-use Rattle.cases.specs.Plays.{Box, waits, total, capacity_of}
+use Rattle.cases.specs.Plays.{Box, total, meaning}
 use Rattle.cases.proofs.Checks.{no_some}
 use Rattle.cases.proofs.Answered.{Outcome}
 
 -- two outlets that cannot be told apart by their numbers
 abbrev pub Same : Box → Box → Type 0
-Same o left = NoChange waits total capacity_of o left
+Same o left = NoChange meaning o left
 
 -- ### a step
 
@@ -65,18 +65,18 @@ step_out t o l = step_if (ltb l 8) t o l
 abbrev pub step_box : Table → Box → ℕ → Box
 step_box t o l = box_if (ltb l 8) t o l
 
-offers_is : (accepted : Bool) (o : Box) (m : Option Message) → offer_sure accepted o m ≡ true → Offers waits total capacity_of m o accepted (offered accepted o m)
+offers_is : (accepted : Bool) (o : Box) (m : Option Message) → offer_sure accepted o m ≡ true → Offers meaning m o accepted (offered accepted o m)
 offers_is accepted o None h = refl
 offers_is true o (Some m) h =
     (ltb-true (total o) o.capacity h, record { each = λ x. sum_by_push (one x) o.messages m; all = length_push o.messages m; fixed = refl })
 offers_is false o (Some m) h = (eqb-true (total o) o.capacity h, record { each = λ x. refl; all = refl; fixed = refl })
 
 module _ (t : Table) (o : Box) (l : ℕ) where
-  step_if_is : (small : Bool) → (step_if small t o l).sure ≡ true → StepsIf waits total capacity_of small t o l (step_if small t o l).said (step_if small t o l).table (box_if small t o l)
+  step_if_is : (small : Bool) → (step_if small t o l).sure ≡ true → StepsIf meaning small t o l (step_if small t o l).said (step_if small t o l).table (box_if small t o l)
   step_if_is true h = (accepts o, offers_is (accepts o) o (offer_of t l) h, refl, refl)
   step_if_is false h = (refl, refl, refl)
 
-  pub step_is : (step_out t o l).sure ≡ true → Steps waits total capacity_of t o l (step_out t o l).said (step_out t o l).table (step_box t o l)
+  pub step_is : (step_out t o l).sure ≡ true → Steps meaning t o l (step_out t o l).said (step_out t o l).table (step_box t o l)
   step_is h = step_if_is (ltb l 8) h
 
 -- ### no other step
@@ -106,7 +106,7 @@ module _ (o left after : Box) (alike : Same o left) where
   same_after : Same left after → Same o after
   same_after c = record { each = λ x. c.each x ∙ alike.each x; all = c.all ∙ alike.all; fixed = c.fixed ∙ alike.fixed }
 
-  offer_only : (accepts_it accepted : Bool) (m : Message) → offer_sure accepts_it o (Some m) ≡ true → Offers waits total capacity_of (Some m) left accepted after
+  offer_only : (accepts_it accepted : Bool) (m : Message) → offer_sure accepts_it o (Some m) ≡ true → Offers meaning (Some m) left accepted after
       → (accepted ≡ accepts_it) × Same (offered accepts_it o (Some m)) after
   offer_only true true m h s = (
     refl,
@@ -121,7 +121,7 @@ module _ (o left after : Box) (alike : Same o left) where
   offer_only false false m h s = (refl, same_after s.1)
 
 module _ (t : Table) (o left : Box) (l : ℕ) (alike : Same o left) (other : Result Step Fault) (then : Table) (after : Box) where
-  offers_only : (m : Option Message) (accepted : Bool) → offer_of t l ≡ m → offer_sure (accepts o) o m ≡ true → Offers waits total capacity_of m left accepted after
+  offers_only : (m : Option Message) (accepted : Bool) → offer_of t l ≡ m → offer_sure (accepts o) o m ≡ true → Offers meaning m left accepted after
       → (stepped accepted t l ≡ stepped (accepts o) t l) × Same (offered (accepts o) o m) after
   offers_only None accepted e h s =
       (state_alike t l accepted (accepts o) (lane_at t.lanes l).state e, subst (Same o) (sym s) alike)
@@ -129,14 +129,14 @@ module _ (t : Table) (o left : Box) (l : ℕ) (alike : Same o left) (other : Res
       let only = offer_only o left after alike (accepts o) accepted m h s in
       (ap (λ b. stepped b t l) only.0, only.1)
 
-  step_if_only : (small : Bool) → (step_if small t o l).sure ≡ true → StepsIf waits total capacity_of small t left l other then after
+  step_if_only : (small : Bool) → (step_if small t o l).sure ≡ true → StepsIf meaning small t left l other then after
       → (other ≡ (step_if small t o l).said) × ((step_if small t o l).table ≡ then) × Same (box_if small t o l) after
   step_if_only true h s =
       let only = offers_only (offer_of t l) s.0 refl h s.1 in
       (s.2 ∙ ap (λ r. Ok r.answer) only.0, sym (s.3 ∙ ap (λ r. r.table) only.0), only.1)
   step_if_only false h s = (s.0, sym s.1, subst (Same o) (sym s.2) alike)
 
-  pub step_only : (step_out t o l).sure ≡ true → Steps waits total capacity_of t left l other then after
+  pub step_only : (step_out t o l).sure ≡ true → Steps meaning t left l other then after
       → (other ≡ (step_out t o l).said) × ((step_out t o l).table ≡ then) × Same (step_box t o l) after
   step_only h s = step_if_only (ltb l 8) h s
 
@@ -158,11 +158,11 @@ abbrev pub take_sure : Box → Bool
 take_sure o = leb (total o) 1
 
 takes_is : (ms : List Message) (n : ℕ)
-    → Takes waits total capacity_of (record { messages = ms; capacity = n }) (first_in ms) (record { messages = behind_first ms; capacity = n })
+    → Takes meaning (record { messages = ms; capacity = n }) (first_in ms) (record { messages = behind_first ms; capacity = n })
 takes_is [] n = (refl, record { each = λ x. refl; all = refl; fixed = refl })
 takes_is (m ∷ ms) n = record { each = λ x. omega (arith, sum_by-cons (one x) m ms); all = omega arith; fixed = refl }
 
-pub take_is : (o : Box) → Takes waits total capacity_of o (first_in o.messages) (take_box o)
+pub take_is : (o : Box) → Takes meaning o (first_in o.messages) (take_box o)
 take_is o = takes_is o.messages o.capacity
 
 one_itself : (m : Message) → one m m ≡ 1
@@ -173,7 +173,7 @@ one_is a b h = elim (cases_Bool (same a b)) [ inl e ↦ same_is a b e | inr e �
 
 module _ (left after : Box) where
   takes_only : (ms : List Message) (n : ℕ) (other : Option Message) → Same (record { messages = ms; capacity = n }) left → leb (length ms) 1 ≡ true
-      → Takes waits total capacity_of left other after → (other ≡ first_in ms) × Same (record { messages = behind_first ms; capacity = n }) after
+      → Takes meaning left other after → (other ≡ first_in ms) × Same (record { messages = behind_first ms; capacity = n }) after
   takes_only [] n None alike h s = (refl, same_after _ left after alike s.1)
   takes_only [] n (Some m) alike h s = absurd (omega (arith, s.all, alike.all))
   takes_only (m ∷ []) n None alike h s = absurd (omega (arith, s.0, alike.all))
@@ -188,6 +188,6 @@ module _ (left after : Box) where
       )
   takes_only (m ∷ (k ∷ ms)) n other alike h s = absurd (omega (arith, leb-true (length (m ∷ (k ∷ ms))) 1 h))
 
-pub take_only : (o left after : Box) (other : Option Message) → Same o left → take_sure o ≡ true → Takes waits total capacity_of left other after
+pub take_only : (o left after : Box) (other : Option Message) → Same o left → take_sure o ≡ true → Takes meaning left other after
     → (other ≡ first_in o.messages) × Same (take_box o) after
 take_only o left after other alike h s = takes_only left after o.messages o.capacity other alike h s

@@ -12,6 +12,7 @@ use Rattle.reach.specs.declared.line.Line.{Line}
 use Rattle.reach.specs.Scenes.{scene_of}
 use Rattle.reach.specs.Chains.{Lawful}
 use Rattle.outlets.specs.declared.message.Message.{Message}
+use Rattle.outlets.specs.Meaning.{Meaning}
 use Rattle.outlets.specs.Messages.{times}
 use Rattle.steps.specs.declared.answer.Step.{Step}
 use Rattle.calls.specs.declared.fault.Fault.{Fault}
@@ -33,6 +34,9 @@ total o = length o.messages
 
 abbrev pub capacity_of : Box → ℕ
 capacity_of o = o.capacity
+
+abbrev pub meaning : Meaning Box
+meaning = record { waits = waits; total = total; capacity = capacity_of }
 
 -- ### acts
 
@@ -63,8 +67,8 @@ Plays t o memory (check pattern answer ∷ acts) =
 Plays t o memory (remove pattern answer ∷ acts) = (then : Table) × Remove t pattern answer then × Plays then o memory acts
 Plays t o memory (release pattern answer ∷ acts) = (then : Table) × Release t pattern answer then × Plays then o memory acts
 Plays t o memory (step lane answer ∷ acts) =
-    (then : Table) × (left : Box) × Steps waits total capacity_of t o lane answer then left × Plays then left memory acts
-Plays t o memory (take answer ∷ acts) = (left : Box) × Takes waits total capacity_of o answer left × Plays t left memory acts
+    (then : Table) × (left : Box) × Steps meaning t o lane answer then left × Plays then left memory acts
+Plays t o memory (take answer ∷ acts) = (left : Box) × Takes meaning o answer left × Plays t left memory acts
 Plays t o memory (lawful chain ∷ acts) = Lawful (scene_of t) chain × Plays t o memory acts
 Plays t o memory (node place there ∷ acts) = (node_at t.nodes place ≡ there) × Plays t o memory acts
 Plays t o memory (rows place there ∷ acts) = (rows_at t place ≡ there) × Plays t o memory acts
@@ -91,9 +95,9 @@ Settled t o memory (remove pattern answer ∷ acts) =
 Settled t o memory (release pattern answer ∷ acts) =
     (other : Result (Unit {0}) Fault) (then : Table) → Release t pattern other then → (other ≡ answer) × Settled then o memory acts
 Settled t o memory (step lane answer ∷ acts) =
-    (other : Result Step Fault) (then : Table) (left : Box) → Steps waits total capacity_of t o lane other then left → (other ≡ answer) × Settled then left memory acts
+    (other : Result Step Fault) (then : Table) (left : Box) → Steps meaning t o lane other then left → (other ≡ answer) × Settled then left memory acts
 Settled t o memory (take answer ∷ acts) =
-    (other : Option Message) (left : Box) → Takes waits total capacity_of o other left → (other ≡ answer) × Settled t left memory acts
+    (other : Option Message) (left : Box) → Takes meaning o other left → (other ≡ answer) × Settled t left memory acts
 Settled t o memory (lawful chain ∷ acts) = Lawful (scene_of t) chain × Settled t o memory acts
 Settled t o memory (node place there ∷ acts) = (node_at t.nodes place ≡ there) × Settled t o memory acts
 Settled t o memory (rows place there ∷ acts) = (rows_at t place ≡ there) × Settled t o memory acts

@@ -8,7 +8,7 @@ use Rattle.outlets.specs.declared.message.Message.{Message}
 use Rattle.outlets.specs.declared.request.Request.TheVariants.{Take, Offer}
 use Rattle.outlets.specs.declared.request.Reply.TheVariants.{Nothing, Took, Accepted, Refused}
 use Rattle.outlets.specs.Messages.{one, times}
-use Rattle.outlets.specs.Meaning.{Step}
+use Rattle.outlets.specs.Meaning.{Meaning, Step, listed}
 use Rattle.outlets.specs.Replies.{offered, took}
 
 zero_is_not_one : ◌≡◌ {A = ℕ} 0 1 → ⊥
@@ -23,13 +23,10 @@ oldest_none [] e = refl
 oldest_none (x ∷ xs) e = let none : ◌≡◌ {A = ℕ} 0 1 = cc in absurd (zero_is_not_one none)
 
 module _ {O : Type 0} (messages : O → List Message) (places : O → ℕ) where
-  abbrev waits : O → Message → ℕ
-  waits o x = times x (messages o)
+  abbrev meaning : Meaning O
+  meaning = listed messages places
 
-  abbrev in_all : O → ℕ
-  in_all o = length (messages o)
-
-  pub accepted : (o n : O) (m : Message) → length (messages o) < places o → messages n ≡ messages o ++ m ∷ [] → places n ≡ places o → Step waits in_all places o (Offer m) Accepted n
+  pub accepted : (o n : O) (m : Message) → length (messages o) < places o → messages n ≡ messages o ++ m ∷ [] → places n ≡ places o → Step meaning o (Offer m) Accepted n
   accepted o n m room joins fixed = (
     room,
     record {
@@ -39,22 +36,22 @@ module _ {O : Type 0} (messages : O → List Message) (places : O → ℕ) where
     },
   )
 
-  pub refused : (o n : O) (m : Message) → length (messages o) ≡ places o → messages n ≡ messages o → places n ≡ places o → Step waits in_all places o (Offer m) Refused n
+  pub refused : (o n : O) (m : Message) → length (messages o) ≡ places o → messages n ≡ messages o → places n ≡ places o → Step meaning o (Offer m) Refused n
   refused o n m full same fixed = (full, record { each = λ x. ap (times x) same; all = ap length same; fixed = fixed })
 
-  pub nothing : (o n : O) → length (messages o) ≡ 0 → messages n ≡ messages o → places n ≡ places o → Step waits in_all places o Take Nothing n
+  pub nothing : (o n : O) → length (messages o) ≡ 0 → messages n ≡ messages o → places n ≡ places o → Step meaning o Take Nothing n
   nothing o n none same fixed = (none, record { each = λ x. ap (times x) same; all = ap length same; fixed = fixed })
 
-  pub taken : (o n : O) (m : Message) → ((x : Message) → times x (messages o) ≡ times x (messages n) + one x m) → length (messages o) ≡ length (messages n) + 1 → places n ≡ places o → Step waits in_all places o Take (Took m) n
+  pub taken : (o n : O) (m : Message) → ((x : Message) → times x (messages o) ≡ times x (messages n) + one x m) → length (messages o) ≡ length (messages n) + 1 → places n ≡ places o → Step meaning o Take (Took m) n
   taken o n m each all fixed = record { each = each; all = all; fixed = sym fixed }
 
   -- what joins at the end
-  pub offer_last : (o n : O) (r : Bool) (m : Message) → length (messages o) ≤ places o → r ≡ ltb (length (messages o)) (places o) → messages n ≡ cond r (messages o ++ m ∷ []) (messages o) → places n ≡ places o → Step waits in_all places o (Offer m) (offered r) n
+  pub offer_last : (o n : O) (r : Bool) (m : Message) → length (messages o) ≤ places o → r ≡ ltb (length (messages o)) (places o) → messages n ≡ cond r (messages o ++ m ∷ []) (messages o) → places n ≡ places o → Step meaning o (Offer m) (offered r) n
   offer_last o n true m within answer joins fixed = accepted o n m (ltb-true _ _ (sym answer)) joins fixed
   offer_last o n false m within answer joins fixed = refused o n m (omega (arith, ltb-false _ _ (sym answer))) joins fixed
 
   -- what leaves at the front
-  pub take_first : (o n : O) (r : Option Message) → r ≡ oldest (messages o) → messages n ≡ drop 1 (messages o) → places n ≡ places o → Step waits in_all places o Take (took r) n
+  pub take_first : (o n : O) (r : Option Message) → r ≡ oldest (messages o) → messages n ≡ drop 1 (messages o) → places n ≡ places o → Step meaning o Take (took r) n
   take_first o n (Some m) answer leaves fixed =
       let split : messages o ≡ m ∷ messages n = oldest_some (messages o) m answer ∙ ap (λ t. m ∷ t) (sym leaves) in
       taken o n m (λ x. omega (arith, ap (times x) split, sum_by-cons (one x) m (messages n))) (omega (arith, ap length split)) fixed

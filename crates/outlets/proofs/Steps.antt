@@ -5,12 +5,12 @@ use Rattle.outlets.specs.declared.request.Request.{Request}
 use Rattle.outlets.specs.declared.request.Request.TheVariants.{Take, Offer}
 use Rattle.outlets.specs.declared.request.Reply.{Reply}
 use Rattle.outlets.specs.declared.request.Reply.TheVariants.{Nothing, Took, Accepted, Refused}
-use Rattle.outlets.specs.Meaning.{Step}
+use Rattle.outlets.specs.Meaning.{Meaning, Step}
 use Rattle.outlets.specs.Balance.{accepts, takes}
 
-module _ {O : Type 0} (waits : O → Message → ℕ) (total capacity : O → ℕ) where
+module _ {O : Type 0} (meaning : Meaning O) where
   -- for each message: what waited and was accepted is what was taken and waits now
-  pub step_balance : (o n : O) (request : Request) (reply : Reply) → Step waits total capacity o request reply n → (x : Message) → waits o x + accepts x request reply ≡ takes x reply + waits n x
+  pub step_balance : (o n : O) (request : Request) (reply : Reply) → Step meaning o request reply n → (x : Message) → meaning.waits o x + accepts x request reply ≡ takes x reply + meaning.waits n x
   step_balance o n (Offer m) Accepted s x = omega (arith, s.1.each x)
   step_balance o n (Offer m) Refused s x = omega (arith, s.1.each x)
   step_balance o n (Offer m) (Took y) s x = absurd s

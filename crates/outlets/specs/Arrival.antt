@@ -1,10 +1,9 @@
 -- What waits in the outlet that hands out first what came in first.
-use Rattle.std.specs.Prelude.{ℕ, List, length, refl}
+use Rattle.std.specs.Prelude.{ℕ, List, length}
 use Rattle.first_in.specs.Items.{items, room}
 use Rattle.outlets.specs.declared.arrival.FirstInOutlet.{FirstInOutlet}
 use Rattle.outlets.specs.declared.message.Message.{Message}
-use Rattle.outlets.specs.Messages.{times}
-use Rattle.outlets.specs.Meaning.{InAll}
+use Rattle.outlets.specs.Meaning.{InAll, Meaning, listed, listed_sums}
 
 -- the messages that wait, in the order in which they came
 abbrev pub messages : FirstInOutlet → List Message
@@ -14,14 +13,9 @@ messages o = items o.list
 abbrev pub places : FirstInOutlet → ℕ
 places o = room o.list
 
--- how often each message waits
-abbrev pub waiting : FirstInOutlet → Message → ℕ
-waiting o x = times x (messages o)
+abbrev pub meaning : Meaning FirstInOutlet
+meaning = listed messages places
 
--- how many wait in all
-abbrev pub in_all : FirstInOutlet → ℕ
-in_all o = length (messages o)
-
--- the numbers of `waiting` add up to it
-pub sums_up : (o : FirstInOutlet) → InAll (waiting o) (in_all o)
-sums_up o = (messages o, λ x. refl, refl)
+-- the numbers of the single messages add up to the number of all
+pub sums_up : (o : FirstInOutlet) → InAll (meaning.waits o) (meaning.total o)
+sums_up = listed_sums messages places

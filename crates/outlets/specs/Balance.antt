@@ -6,7 +6,7 @@ use Rattle.outlets.specs.declared.request.Request.TheVariants.{Take, Offer}
 use Rattle.outlets.specs.declared.request.Reply.{Reply}
 use Rattle.outlets.specs.declared.request.Reply.TheVariants.{Nothing, Took, Accepted, Refused}
 use Rattle.outlets.specs.Messages.{one}
-use Rattle.outlets.specs.Meaning.{Step}
+use Rattle.outlets.specs.Meaning.{Meaning, Step}
 
 -- 1 where an offer of x was accepted
 abbrev pub accepts : Message → Request → Reply → ℕ
@@ -38,15 +38,15 @@ takings x (reply ∷ replies) = takes x reply + takings x replies
 abbrev pub Balanced : {O : Type 0} → (O → Message → ℕ) → O → List Request → List Reply → O → Type 0
 Balanced waits o requests replies n = (x : Message) → waits o x + acceptances x requests replies ≡ takings x replies + waits n x
 
-module _ {O : Type 0} (waits : O → Message → ℕ) (total capacity : O → ℕ) where
+module _ {O : Type 0} (meaning : Meaning O) where
   -- the requests, made of o one after another, had these replies, and left the outlet n
   pub data Run : O → List Request → List Reply → O → Type 0 where
     done : (o : O) → Run o [] [] o
-    more : (o m n : O) (request : Request) (requests : List Request) (reply : Reply) (replies : List Reply) → Step waits total capacity o request reply m → Run m requests replies n → Run o (request ∷ requests) (reply ∷ replies) n
+    more : (o m n : O) (request : Request) (requests : List Request) (reply : Reply) (replies : List Reply) → Step meaning o request reply m → Run m requests replies n → Run o (request ∷ requests) (reply ∷ replies) n
 
   -- whatever was asked before, it goes on by this request and its reply, and is balanced
   abbrev pub Continues : O → Request → Reply → O → Type 0
   Continues o request reply n =
       (first : O) (asked : List Request) (said : List Reply) →
       Run first asked said o →
-      Run first (asked ++ request ∷ []) (said ++ reply ∷ []) n × Balanced waits first (asked ++ request ∷ []) (said ++ reply ∷ []) n
+      Run first (asked ++ request ∷ []) (said ++ reply ∷ []) n × Balanced meaning.waits first (asked ++ request ∷ []) (said ++ reply ∷ []) n

@@ -1,9 +1,9 @@
 -- What waits in the outlet that hands out first what is due first.
-use Rattle.std.specs.Prelude.{◌≡◌, ℕ, ◌<◌, Bool, false, cond, List, length, take, Some, None, Option, ◌==◌, nat_lt, refl}
+use Rattle.std.specs.Prelude.{◌≡◌, ℕ, ◌<◌, Bool, false, cond, List, length, take, Some, None, Option, ◌==◌, nat_lt}
 use Rattle.outlets.specs.declared.due.EarliestDue.{EarliestDue}
 use Rattle.outlets.specs.declared.message.Message.{Message}
 use Rattle.outlets.specs.Messages.{times}
-use Rattle.outlets.specs.Meaning.{InAll}
+use Rattle.outlets.specs.Meaning.{InAll, Meaning, listed, listed_sums}
 
 -- the messages that wait, in some order
 abbrev pub messages : EarliestDue → List Message
@@ -17,13 +17,12 @@ places o = length o.slots.now
 abbrev pub waiting : EarliestDue → Message → ℕ
 waiting o x = times x (messages o)
 
--- how many wait in all
-abbrev pub in_all : EarliestDue → ℕ
-in_all o = length (messages o)
+abbrev pub meaning : Meaning EarliestDue
+meaning = listed messages places
 
--- the numbers of `waiting` add up to it
-pub sums_up : (o : EarliestDue) → InAll (waiting o) (in_all o)
-sums_up o = (messages o, λ x. refl, refl)
+-- the numbers of the single messages add up to the number of all
+pub sums_up : (o : EarliestDue) → InAll (meaning.waits o) (meaning.total o)
+sums_up = listed_sums messages places
 
 -- that a goes before b: by when they are due, then by the lane, then by the event
 abbrev pub before : Message → Message → Bool

@@ -1,7 +1,7 @@
 //! The outlet that hands out first what came in first.
 ghost use Rattle.std.specs.Prelude.{◌≡◌, [], ◌∷◌, ◌++◌, length, drop, if◌then◌else◌, nat_lt};
 ghost use Rattle.first_in.specs.Items.{oldest};
-ghost use Rattle.outlets.specs.Arrival.{messages, places, waiting, in_all, sums_up};
+ghost use Rattle.outlets.specs.Arrival.{messages, places, meaning, sums_up};
 ghost use Rattle.outlets.specs.Meaning.{Step};
 ghost use Rattle.outlets.specs.Replies.{offered, took};
 
@@ -48,17 +48,13 @@ impl<'a> FirstInOutlet<'a> {
 
 /// Messages leave in the order in which they came.
 impl Outlet for FirstInOutlet<'_> {
-    ghost waits = { waiting };
-
-    ghost total = { in_all };
+    ghost meaning = { meaning };
 
     ghost sums = { sums_up };
 
-    ghost capacity = { places };
-
     /// Lets `m` wait behind all others.
     fn offer(&mut self, m: Message) -> bool
-        ensures step { Step waiting in_all places self.old (Request.Offer m) (offered result) self.new }
+        ensures step { Step meaning self.old (Request.Offer m) (offered result) self.new }
         ensures messages { messages self.new ≡ (if result then messages self.old ++ m ∷ [] else messages self.old) }
     {
         self.push(m)
@@ -66,7 +62,7 @@ impl Outlet for FirstInOutlet<'_> {
 
     /// Hands out the message that waits longest.
     fn take(&mut self) -> Option<Message>
-        ensures step { Step waiting in_all places self.old Request.Take (took result) self.new }
+        ensures step { Step meaning self.old Request.Take (took result) self.new }
         ensures answer { result ≡ oldest (messages self.old) }
         ensures messages { messages self.new ≡ drop 1 (messages self.old) }
     {

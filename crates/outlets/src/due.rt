@@ -1,7 +1,7 @@
 //! The outlet that hands out first what is due first.
 ghost use Rattle.std.specs.Prelude.{◌≡◌, ◌+◌, ◌<◌, ◌≤◌, min, [], length, nat_le, slice_index_or, slice_set};
 ghost use Rattle.std.specs.List.{IsFirstBest};
-ghost use Rattle.outlets.specs.Due.{before, messages, places, waiting, in_all, sums_up, Earliest};
+ghost use Rattle.outlets.specs.Due.{before, messages, places, waiting, meaning, sums_up, Earliest};
 ghost use Rattle.outlets.specs.Meaning.{Step};
 ghost use Rattle.outlets.specs.Messages.{blank};
 ghost use Rattle.outlets.specs.Replies.{took};
@@ -95,13 +95,9 @@ impl<'a> EarliestDue<'a> {
 
 /// Messages leave in the order in which they are due.
 impl Outlet for EarliestDue<'_> {
-    ghost waits = { waiting };
-
-    ghost total = { in_all };
+    ghost meaning = { meaning };
 
     ghost sums = { sums_up };
-
-    ghost capacity = { places };
 
     /// Lets `m` wait, if there is room.
     fn offer(&mut self, m: Message) -> bool {
@@ -114,7 +110,7 @@ impl Outlet for EarliestDue<'_> {
 
     /// Hands out the message that is due first.
     fn take(&mut self) -> Option<Message>
-        ensures step { Step waiting in_all places self.old Request.Take (took result) self.new }
+        ensures step { Step meaning self.old Request.Take (took result) self.new }
         ensures earliest { Earliest (waiting self.old) result }
     {
         let len = self.len();

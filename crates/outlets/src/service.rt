@@ -8,7 +8,7 @@ use crate::request::{Reply, Request};
 
 /// Makes the call that `request` asks for, and says what came of it.
 fn call<O: Outlet>(outlet: &mut O, request: Request) -> Reply
-    ensures { Step O.Outlet.waits O.Outlet.total O.Outlet.capacity outlet.old request result outlet.new }
+    ensures { Step O.Outlet.meaning outlet.old request result outlet.new }
 {
     match request {
         Request::Offer(m) => Reply::to_offer(outlet.offer(m)),
@@ -20,8 +20,8 @@ fn call<O: Outlet>(outlet: &mut O, request: Request) -> Reply
 /// request and its reply at the end it is balanced: for each message, as many waited at first and were accepted as were
 /// taken and wait now.
 pub fn answer<O: Outlet>(outlet: &mut O, request: Request) -> Reply
-    ensures step { Step O.Outlet.waits O.Outlet.total O.Outlet.capacity outlet.old request result outlet.new }
-    ensures history { Continues O.Outlet.waits O.Outlet.total O.Outlet.capacity outlet.old request result outlet.new }
+    ensures step { Step O.Outlet.meaning outlet.old request result outlet.new }
+    ensures history { Continues O.Outlet.meaning outlet.old request result outlet.new }
 {
     call(outlet, request)
 }
@@ -32,8 +32,8 @@ pub fn answer<O: Outlet>(outlet: &mut O, request: Request) -> Reply
 pub fn serve<O: Outlet>(outlet: &mut O, requests: &[Request], replies: &mut [Reply]) -> usize
     ensures count { result ≡ min (length requests.now) (length replies.old) }
     ensures rest { drop result replies.new ≡ drop result replies.old }
-    ensures run { Run O.Outlet.waits O.Outlet.total O.Outlet.capacity outlet.old (take result requests.now) (take result replies.new) outlet.new }
-    ensures balance { Balanced O.Outlet.waits outlet.old (take result requests.now) (take result replies.new) outlet.new }
+    ensures run { Run O.Outlet.meaning outlet.old (take result requests.now) (take result replies.new) outlet.new }
+    ensures balance { Balanced O.Outlet.meaning.waits outlet.old (take result requests.now) (take result replies.new) outlet.new }
 {
     let n = requests.len().min(replies.len());
     for i in 0..n {

@@ -10,6 +10,7 @@ use Rattle.lanes.specs.declared.lane.LaneState.{LaneState}
 use Rattle.lanes.specs.declared.lane.LaneState.TheVariants as lane
 use Rattle.lanes.specs.Lanes.{lane_at}
 use Rattle.outlets.specs.declared.message.Message.{Message}
+use Rattle.outlets.specs.Meaning.{Meaning}
 use Rattle.structure.specs.Nodes.{node_at}
 use Rattle.table.specs.declared.state.Table.{Table}
 use Rattle.table.specs.Changes.{queued}
@@ -128,18 +129,18 @@ pub made_cases : {X E : Type 0} (P : X → Type 0) (r : Result X E) → IfOk r P
 made_cases P (Ok x) m = m
 made_cases P (Err e) m = tt
 
-module _ {O : Type 0} (waits : O → Message → ℕ) (total capacity : O → ℕ) where
-  steps_check : (b : Bool) (t : Table) (o : O) (l : ℕ) (answer : Result Step Fault) (t' : Table) (o' : O) → StepsIf waits total capacity b t o l answer t' o' → t'.check ≡ t.check
+module _ {O : Type 0} (meaning : Meaning O) where
+  steps_check : (b : Bool) (t : Table) (o : O) (l : ℕ) (answer : Result Step Fault) (t' : Table) (o' : O) → StepsIf meaning b t o l answer t' o' → t'.check ≡ t.check
   steps_check true t o l answer t' o' h = ap (λ (x : Table). x.check) h.3 ∙ stepped_check h.0 t l
   steps_check false t o l answer t' o' h = ap (λ (x : Table). x.check) h.1
 
-  pub step_check : (t : Table) (o : O) (l : ℕ) (answer : Result Step Fault) (t' : Table) (o' : O) → Steps waits total capacity t o l answer t' o' → t'.check ≡ t.check
+  pub step_check : (t : Table) (o : O) (l : ℕ) (answer : Result Step Fault) (t' : Table) (o' : O) → Steps meaning t o l answer t' o' → t'.check ≡ t.check
   step_check t o l answer t' o' h = steps_check (ltb l 8) t o l answer t' o' h
 
   -- ### what is told, unless there is no memory left for it
 
   pub told_or_none : {E : Type 0} (before after : Stage O) (said : Said) (it : Told) (Failed : Type 0) (r : Result Answer E)
-      → MatchResult r (λ answer. told answer ≡ it) (λ _. Failed) → Plays waits total capacity before said it after
-      → (Failed → (after.table ≡ before.table) × (after.outlet ≡ before.outlet)) → Played waits total capacity before said r after
-  told_or_none before after said it Failed (Ok answer) tells plays kept = subst (λ it. Plays waits total capacity before said it after) (sym tells) plays
+      → MatchResult r (λ answer. told answer ≡ it) (λ _. Failed) → Plays meaning before said it after
+      → (Failed → (after.table ≡ before.table) × (after.outlet ≡ before.outlet)) → Played meaning before said r after
+  told_or_none before after said it Failed (Ok answer) tells plays kept = subst (λ it. Plays meaning before said it after) (sym tells) plays
   told_or_none before after said it Failed (Err none) tells plays kept = kept tells

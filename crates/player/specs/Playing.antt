@@ -9,6 +9,7 @@ use Rattle.lanes.specs.declared.record.Lanes.{Lanes}
 use Rattle.lanes.specs.Lanes.{idle_lane, lane_at}
 use Rattle.rows.specs.Rows.{waiting}
 use Rattle.outlets.specs.declared.message.Message.{Message}
+use Rattle.outlets.specs.Meaning.{Meaning}
 use Rattle.table.specs.declared.state.Rows.{Rows}
 use Rattle.table.specs.declared.state.Table.{Table}
 use Rattle.table.specs.Changes.{rows_at}
@@ -96,7 +97,7 @@ module _ {O : Type 0} where
   UsesPermit name Use None before told after = (told ≡ no_permit name) × (after ≡ before)
   UsesPermit name Use (Some pattern) before told after = Use before.table pattern (Ok tt) after.table × (told ≡ accepted name) × TableOnly before after
 
-module _ {O : Type 0} (waits : O → Message → ℕ) (total capacity : O → ℕ) where
+module _ {O : Type 0} (meaning : Meaning O) where
   -- what a call tells, and what is held after it
   abbrev pub Plays : Stage O → Said → Told → Stage O → Type 0
   Plays before (memory lines) told after = (told ≡ lines_now lines) × (after ≡ record { table = before.table; outlet = before.outlet; memory = blank_memory lines })
@@ -117,10 +118,10 @@ module _ {O : Type 0} (waits : O → Message → ℕ) (total capacity : O → �
   Plays before remove told after = UsesPermit name.Remove calls.Remove before.table.check before told after
   Plays before release told after = UsesPermit name.Release calls.Release before.table.check before told after
   Plays before (step number) told after =
-      (answer : Result Step Fault) × calls.Steps waits total capacity before.table before.outlet number answer after.table after.outlet
+      (answer : Result Step Fault) × calls.Steps meaning before.table before.outlet number answer after.table after.outlet
       × (told ≡ step_told answer) × (after.memory ≡ before.memory)
   Plays before take told after =
-      (answer : Option Message) × calls.Takes waits total capacity before.outlet answer after.outlet
+      (answer : Option Message) × calls.Takes meaning before.outlet answer after.outlet
       × (told ≡ taken answer) × (after.table ≡ before.table) × (after.memory ≡ before.memory)
   Plays before (lane number) told after = (told ≡ lane_told before.table.lanes number) × (after ≡ before)
   Plays before (reach place) told after =

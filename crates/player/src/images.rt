@@ -28,7 +28,7 @@ fn useful(nodes: &[Option<Node>; 512], room: usize) -> usize
 impl<O: Outlet> Player<O> {
     /// Loads the image of the words.
     pub(crate) fn load(&mut self, heap: Global, words: &[u32]) -> Answer
-        ensures { Plays O.Outlet.waits O.Outlet.total O.Outlet.capacity (stage_of self.old) (load_said words.now) (told result) (stage_of self.new) }
+        ensures { Plays O.Outlet.meaning (stage_of self.old) (load_said words.now) (told result) (stage_of self.new) }
     {
         match self.sequencer.load(words) {
             Ok(nodes) => Answer::Loaded(nodes),

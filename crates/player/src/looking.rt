@@ -24,7 +24,7 @@ const IDLE: Lane = Lane {
 impl<O: Outlet> Player<O> {
     /// Gives the chain memory so many lines.
     pub(crate) fn set_memory(&mut self, heap: Global, lines: u32) -> Result<Answer, AllocError>
-        ensures { Played O.Outlet.waits O.Outlet.total O.Outlet.capacity (stage_of self.old) (memory_said lines) result (stage_of self.new) }
+        ensures { Played O.Outlet.meaning (stage_of self.old) (memory_said lines) result (stage_of self.new) }
     {
         self.memory = vec![in heap; BLANK; lines as usize]?;
         Ok(Answer::Memory(lines))
@@ -54,7 +54,7 @@ impl<O: Outlet> Player<O> {
 
     /// Whether lanes can come to the place, with the chain that shows it.
     pub(crate) fn reach(&mut self, heap: Global, place: u16) -> Result<Answer, AllocError>
-        ensures { Played O.Outlet.waits O.Outlet.total O.Outlet.capacity (stage_of self.old) (reach_said place) result (stage_of self.new) }
+        ensures { Played O.Outlet.meaning (stage_of self.old) (reach_said place) result (stage_of self.new) }
     {
         let table = self.sequencer.table();
         let view = View {

@@ -27,7 +27,7 @@ impl<O: Outlet> Player<O> {
 
     /// Makes a call.
     pub fn play(&mut self, heap: Global, call: Call) -> Result<Answer, AllocError>
-        ensures { Played O.Outlet.waits O.Outlet.total O.Outlet.capacity (stage_of self.old) (said call) result (stage_of self.new) }
+        ensures { Played O.Outlet.meaning (stage_of self.old) (said call) result (stage_of self.new) }
     {
         match call {
             Call::Memory(lines) => self.set_memory(heap, lines),

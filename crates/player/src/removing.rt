@@ -16,7 +16,7 @@ use std::alloc::{AllocError, Global};
 impl<O: Outlet> Player<O> {
     /// Asks for a permit to remove the pattern, and keeps it.
     pub(crate) fn check(&mut self, heap: Global, pattern: u32) -> Result<Answer, AllocError>
-        ensures { Played O.Outlet.waits O.Outlet.total O.Outlet.capacity (stage_of self.old) (check_said pattern) result (stage_of self.new) }
+        ensures { Played O.Outlet.meaning (stage_of self.old) (check_said pattern) result (stage_of self.new) }
     {
         let memory = self.memory.as_mut_slice();
         match self.sequencer.check(pattern, memory) {
@@ -31,7 +31,7 @@ impl<O: Outlet> Player<O> {
 
     /// Removes the pattern of the permit in hand. It is that of the open check, so that it is not refused.
     pub(crate) fn remove(&mut self) -> Answer
-        ensures { Plays O.Outlet.waits O.Outlet.total O.Outlet.capacity (stage_of self.old) remove_said (told result) (stage_of self.new) }
+        ensures { Plays O.Outlet.meaning (stage_of self.old) remove_said (told result) (stage_of self.new) }
     {
         match self.permit.take() {
             None => Answer::NoPermit(Name::Remove),
@@ -44,7 +44,7 @@ impl<O: Outlet> Player<O> {
 
     /// Gives the permit in hand back. It is that of the open check, so that it is not refused.
     pub(crate) fn release(&mut self) -> Answer
-        ensures { Plays O.Outlet.waits O.Outlet.total O.Outlet.capacity (stage_of self.old) release_said (told result) (stage_of self.new) }
+        ensures { Plays O.Outlet.meaning (stage_of self.old) release_said (told result) (stage_of self.new) }
     {
         match self.permit.take() {
             None => Answer::NoPermit(Name::Release),

@@ -20,7 +20,7 @@ impl<O: Outlet> Player<O> {
         place: u32,
         tick: u64,
     ) -> Result<Answer, AllocError>
-        ensures { Played O.Outlet.waits O.Outlet.total O.Outlet.capacity (stage_of self.old) (start_said lane place tick) result (stage_of self.new) }
+        ensures { Played O.Outlet.meaning (stage_of self.old) (start_said lane place tick) result (stage_of self.new) }
     {
         let memory = self.memory.as_mut_slice();
         let answer = self.sequencer.start(lane, place, tick, memory);
@@ -29,21 +29,21 @@ impl<O: Outlet> Player<O> {
 
     /// Stops a lane where it is.
     pub(crate) fn hold(&mut self, heap: Global, lane: u32) -> Answer
-        ensures { Plays O.Outlet.waits O.Outlet.total O.Outlet.capacity (stage_of self.old) (hold_said lane) (told result) (stage_of self.new) }
+        ensures { Plays O.Outlet.meaning (stage_of self.old) (hold_said lane) (told result) (stage_of self.new) }
     {
         plain(heap, Name::Hold, self.sequencer.hold(lane))
     }
 
     /// Lets a held lane run on.
     pub(crate) fn resume(&mut self, heap: Global, lane: u32) -> Answer
-        ensures { Plays O.Outlet.waits O.Outlet.total O.Outlet.capacity (stage_of self.old) (resume_said lane) (told result) (stage_of self.new) }
+        ensures { Plays O.Outlet.meaning (stage_of self.old) (resume_said lane) (told result) (stage_of self.new) }
     {
         plain(heap, Name::Resume, self.sequencer.resume(lane))
     }
 
     /// Makes a lane idle.
     pub(crate) fn abort(&mut self, heap: Global, lane: u32) -> Answer
-        ensures { Plays O.Outlet.waits O.Outlet.total O.Outlet.capacity (stage_of self.old) (abort_said lane) (told result) (stage_of self.new) }
+        ensures { Plays O.Outlet.meaning (stage_of self.old) (abort_said lane) (told result) (stage_of self.new) }
     {
         plain(heap, Name::Abort, self.sequencer.abort(lane))
     }
@@ -55,7 +55,7 @@ impl<O: Outlet> Player<O> {
         block: u32,
         word: u32,
     ) -> Result<Answer, AllocError>
-        ensures { Played O.Outlet.waits O.Outlet.total O.Outlet.capacity (stage_of self.old) (command_said block word) result (stage_of self.new) }
+        ensures { Played O.Outlet.meaning (stage_of self.old) (command_said block word) result (stage_of self.new) }
     {
         let memory = self.memory.as_mut_slice();
         let answer = self.sequencer.command(block, word, memory);
@@ -64,7 +64,7 @@ impl<O: Outlet> Player<O> {
 
     /// Makes one step of a lane.
     pub(crate) fn step(&mut self, heap: Global, lane: u32) -> Answer
-        ensures { Plays O.Outlet.waits O.Outlet.total O.Outlet.capacity (stage_of self.old) (step_said lane) (told result) (stage_of self.new) }
+        ensures { Plays O.Outlet.meaning (stage_of self.old) (step_said lane) (told result) (stage_of self.new) }
     {
         match self.sequencer.step(lane) {
             Ok(step) => Answer::Stepped(step),
@@ -74,7 +74,7 @@ impl<O: Outlet> Player<O> {
 
     /// Takes a message from the outlet.
     pub(crate) fn take(&mut self) -> Answer
-        ensures { Plays O.Outlet.waits O.Outlet.total O.Outlet.capacity (stage_of self.old) take_said (told result) (stage_of self.new) }
+        ensures { Plays O.Outlet.meaning (stage_of self.old) take_said (told result) (stage_of self.new) }
     {
         Answer::Taken(self.sequencer.take())
     }

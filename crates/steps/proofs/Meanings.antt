@@ -11,6 +11,7 @@ use Rattle.lanes.specs.declared.lane.LaneState.TheVariants as lane
 use Rattle.lanes.specs.Lanes.{lane_at}
 use Rattle.structure.specs.Nodes.{node_at}
 use Rattle.outlets.specs.declared.message.Message.{Message}
+use Rattle.outlets.specs.Meaning.{Meaning}
 use Rattle.table.specs.declared.state.Table.{Table}
 use Rattle.table.specs.Changes.{rows_at}
 use Rattle.steps.specs.Limits.{limit}
@@ -68,10 +69,10 @@ module _ (t : Table) (l : ℕ) where
   meant accepted = state_meant accepted (lane_at t.lanes l).state refl
 
 -- so does every step of a lane
-pub says : {O : Type 0} (waits : O → Message → ℕ) (total capacity : O → ℕ) (b : Bool) (t : Table) (o : O) (l : ℕ) (r : Option Step) (after_t : Table) (after_o : O)
-    → LaneSteps waits total capacity b t o l r after_t after_o → Says t l r after_t
-says waits total capacity true t o l (Some answer) after_t after_o (accepted, offered, told, after) =
+pub says : {O : Type 0} (meaning : Meaning O) (b : Bool) (t : Table) (o : O) (l : ℕ) (r : Option Step) (after_t : Table) (after_o : O)
+    → LaneSteps meaning b t o l r after_t after_o → Says t l r after_t
+says meaning true t o l (Some answer) after_t after_o (accepted, offered, told, after) =
     subst (λ (a : Step). Means t l a after_t) (sym told) (subst (λ (u : Table). Means t l (stepped accepted t l).answer u) (sym after) (meant t l accepted))
-says waits total capacity true t o l None after_t after_o none = absurd none
-says waits total capacity false t o l (Some answer) after_t after_o none = absurd none
-says waits total capacity false t o l None after_t after_o (same, kept) = same
+says meaning true t o l None after_t after_o none = absurd none
+says meaning false t o l (Some answer) after_t after_o none = absurd none
+says meaning false t o l None after_t after_o (same, kept) = same

@@ -1,6 +1,7 @@
 -- What a step, or a part of it, comes to where it may offer a message on the way.
 use Rattle.std.specs.Prelude.{◌≡◌, ℕ, Bool, true, false, Some, None, Option}
 use Rattle.outlets.specs.declared.message.Message.{Message}
+use Rattle.outlets.specs.Meaning.{Meaning}
 use Rattle.outlets.specs.declared.request.Request.TheVariants as request
 use Rattle.outlets.specs.Meaning as outlet
 use Rattle.outlets.specs.Replies.{offered}
@@ -8,11 +9,11 @@ use Rattle.table.specs.declared.state.Table.{Table}
 use Rattle.steps.specs.declared.answer.Step.{Step}
 use Rattle.steps.specs.Steps.{Stepped, stepped, offer_of}
 
-module _ {O : Type 0} (waits : O → Message → ℕ) (total capacity : O → ℕ) where
+module _ {O : Type 0} (meaning : Meaning O) where
   -- the outlet is offered what the step offers, if anything
   abbrev pub Offers : Option Message → O → Bool → O → Type 0
   Offers None o accepted after = after ≡ o
-  Offers (Some message) o accepted after = outlet.Step waits total capacity o (request.Offer message) (offered accepted) after
+  Offers (Some message) o accepted after = outlet.Step meaning o (request.Offer message) (offered accepted) after
 
   -- the message, if any, was offered, and whether it was accepted decides the answer and the table
   abbrev pub Walks : Option Message → (Bool → Stepped) → O → Step → Table → O → Type 0

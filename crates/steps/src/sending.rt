@@ -40,7 +40,7 @@ pub(crate) fn on_message<O: Outlet>(
     event: u32,
 ) -> Step
     requires { lane < 8 }
-    ensures { Walks O.Outlet.waits O.Outlet.total O.Outlet.capacity (body_offer table.old lane tick (of_body.Message next offset event)) (λ accepted. on_message accepted table.old lane tick next) outlet.old result table.new outlet.new }
+    ensures { Walks O.Outlet.meaning (body_offer table.old lane tick (of_body.Message next offset event)) (λ accepted. on_message accepted table.old lane tick next) outlet.old result table.new outlet.new }
 {
     if !may_send(table, lane, tick) {
         set_state(table, lane, LaneState::Idle);

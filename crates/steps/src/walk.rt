@@ -18,7 +18,7 @@ use words::Body;
 /// The step of a lane whose number is below 8.
 fn walk<O: Outlet>(table: &mut Table, outlet: &mut O, lane: usize) -> Step
     requires { lane < 8 }
-    ensures { Walks O.Outlet.waits O.Outlet.total O.Outlet.capacity (offer_of table.old lane) (λ accepted. stepped accepted table.old lane) outlet.old result table.new outlet.new }
+    ensures { Walks O.Outlet.meaning (offer_of table.old lane) (λ accepted. stepped accepted table.old lane) outlet.old result table.new outlet.new }
 {
     let (place, tick) = match lane_at(table, lane).state {
         LaneState::Idle => return Step::Idle,
@@ -47,7 +47,7 @@ fn walk<O: Outlet>(table: &mut Table, outlet: &mut O, lane: usize) -> Step
 
 /// The step of a lane, if there is one with the number.
 fn walk_any<O: Outlet>(table: &mut Table, outlet: &mut O, lane: usize) -> Option<Step>
-    ensures { LaneSteps O.Outlet.waits O.Outlet.total O.Outlet.capacity (nat_lt lane 8) table.old outlet.old lane result table.new outlet.new }
+    ensures { LaneSteps O.Outlet.meaning (nat_lt lane 8) table.old outlet.old lane result table.new outlet.new }
 {
     if lane < 8 {
         Some(walk(table, outlet, lane))
@@ -58,7 +58,7 @@ fn walk_any<O: Outlet>(table: &mut Table, outlet: &mut O, lane: usize) -> Option
 
 /// Lets a lane take one step, and says what it came to; there is no lane above 7.
 pub fn step<O: Outlet>(table: &mut Table, outlet: &mut O, lane: usize) -> Option<Step>
-    ensures exact { LaneSteps O.Outlet.waits O.Outlet.total O.Outlet.capacity (nat_lt lane 8) table.old outlet.old lane result table.new outlet.new }
+    ensures exact { LaneSteps O.Outlet.meaning (nat_lt lane 8) table.old outlet.old lane result table.new outlet.new }
     ensures says { Says table.old lane result table.new }
 {
     walk_any(table, outlet, lane)

@@ -9,6 +9,7 @@ use Rattle.lanes.specs.declared.lane.LaneState.TheVariants as lane
 use Rattle.lanes.specs.Lanes.{lane_at}
 use Rattle.structure.specs.Nodes.{node_at}
 use Rattle.outlets.specs.declared.message.Message.{Message}
+use Rattle.outlets.specs.Meaning.{Meaning}
 use Rattle.outlets.specs.declared.request.Request.TheVariants as request
 use Rattle.outlets.specs.Replies.{offered, took}
 use Rattle.outlets.proofs.Steps.{step_balance as step_moved}
@@ -71,39 +72,39 @@ nothing_sent came.Ended = refl
 
 -- ### the balance
 
-module _ {O : Type 0} (waits : O → Message → ℕ) (total capacity : O → ℕ) where
-  vacant_balance : (o : O) → ((x : Message) → waits o x ≡ 0) → Balanced waits o []
+module _ {O : Type 0} (meaning : Meaning O) where
+  vacant_balance : (o : O) → ((x : Message) → meaning.waits o x ≡ 0) → Balanced meaning.waits o []
   vacant_balance o none x = omega (arith, none x)
 
-  take_balance : (o n : O) (answer : Option Message) (h : List Event) → Takes waits total capacity o answer n → Balanced waits o h → Balanced waits n (take_event answer ∷ h)
-  take_balance o n None h s b x = omega (arith, step_moved waits total capacity o n request.Take (took None) s x, b x)
-  take_balance o n (Some m) h s b x = omega (arith, step_moved waits total capacity o n request.Take (took (Some m)) s x, b x)
+  take_balance : (o n : O) (answer : Option Message) (h : List Event) → Takes meaning o answer n → Balanced meaning.waits o h → Balanced meaning.waits n (take_event answer ∷ h)
+  take_balance o n None h s b x = omega (arith, step_moved meaning o n request.Take (took None) s x, b x)
+  take_balance o n (Some m) h s b x = omega (arith, step_moved meaning o n request.Take (took (Some m)) s x, b x)
 
   -- by what was offered, and whether it was accepted
   offer_balance : (offer : Option Message) (accepted : Bool) (answer : Step) → ((m : Message) → offer ≡ Some m → answer ≡ said accepted)
-      → (o n : O) (h : List Event) → Offers waits total capacity offer o accepted n → Balanced waits o h → Balanced waits n (answer_event offer answer ∷ h)
+      → (o n : O) (h : List Event) → Offers meaning offer o accepted n → Balanced meaning.waits o h → Balanced meaning.waits n (answer_event offer answer ∷ h)
   offer_balance None accepted answer tells o n h s b =
-      subst (λ e. Balanced waits n (e ∷ h)) (sym (nothing_sent answer)) (subst (λ x. Balanced waits x h) (sym s) b)
+      subst (λ e. Balanced meaning.waits n (e ∷ h)) (sym (nothing_sent answer)) (subst (λ x. Balanced meaning.waits x h) (sym s) b)
   offer_balance (Some m) true answer tells o n h s b =
-      subst (λ a. Balanced waits n (answer_event (Some m) a ∷ h)) (sym (tells m refl))
-      (λ x. omega (arith, step_moved waits total capacity o n (request.Offer m) (offered true) s x, b x))
+      subst (λ a. Balanced meaning.waits n (answer_event (Some m) a ∷ h)) (sym (tells m refl))
+      (λ x. omega (arith, step_moved meaning o n (request.Offer m) (offered true) s x, b x))
   offer_balance (Some m) false answer tells o n h s b =
-      subst (λ a. Balanced waits n (answer_event (Some m) a ∷ h)) (sym (tells m refl))
-      (λ x. omega (arith, step_moved waits total capacity o n (request.Offer m) (offered false) s x, b x))
+      subst (λ a. Balanced meaning.waits n (answer_event (Some m) a ∷ h)) (sym (tells m refl))
+      (λ x. omega (arith, step_moved meaning o n (request.Offer m) (offered false) s x, b x))
 
   steps_balance : (exists : Bool) (t : Table) (o : O) (l : ℕ) (answer : Result Step Fault) (t' : Table) (n : O) (h : List Event)
-      → StepsIf waits total capacity exists t o l answer t' n → Balanced waits o h → Balanced waits n (step_event t l answer ∷ h)
+      → StepsIf meaning exists t o l answer t' n → Balanced meaning.waits o h → Balanced meaning.waits n (step_event t l answer ∷ h)
   steps_balance true t o l answer t' n h s b =
-      subst (λ a. Balanced waits n (step_event t l a ∷ h)) (sym s.2)
+      subst (λ a. Balanced meaning.waits n (step_event t l a ∷ h)) (sym s.2)
       (offer_balance (offer_of t l) s.0 (stepped s.0 t l).answer (offer_said s.0 t l) o n h s.1 b)
   steps_balance false t o l answer t' n h s b =
-      subst (λ a. Balanced waits n (step_event t l a ∷ h)) (sym s.0) (subst (λ x. Balanced waits x h) (sym s.2) b)
+      subst (λ a. Balanced meaning.waits n (step_event t l a ∷ h)) (sym s.0) (subst (λ x. Balanced meaning.waits x h) (sym s.2) b)
 
   step_balance : (t : Table) (o : O) (l : ℕ) (answer : Result Step Fault) (t' : Table) (n : O) (h : List Event)
-      → Steps waits total capacity t o l answer t' n → Balanced waits o h → Balanced waits n (step_event t l answer ∷ h)
+      → Steps meaning t o l answer t' n → Balanced meaning.waits o h → Balanced meaning.waits n (step_event t l answer ∷ h)
   step_balance t o l answer t' n h s b = steps_balance (ltb l 8) t o l answer t' n h s b
 
-  pub use_balanced : (t : Table) (o : O) (h : List Event) → Use waits total capacity t o h → Balanced waits o h
+  pub use_balanced : (t : Table) (o : O) (h : List Event) → Use meaning t o h → Balanced meaning.waits o h
   use_balanced t o h (clear vacant) = vacant_balance o vacant
   use_balanced t o h (load words answer t' u c) = use_balanced _ _ _ u
   use_balanced t o h (start lane place tick answer t' before after u c) = use_balanced _ _ _ u

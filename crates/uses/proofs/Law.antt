@@ -5,6 +5,7 @@ use Rattle.lanes.specs.declared.lane.LaneState.{LaneState}
 use Rattle.lanes.specs.declared.lane.LaneState.TheVariants.{Idle, Running, Held}
 use Rattle.lanes.specs.Lanes.{lane_at}
 use Rattle.outlets.specs.declared.message.Message.{Message}
+use Rattle.outlets.specs.Meaning.{Meaning}
 use Rattle.table.specs.declared.state.Table.{Table}
 use Rattle.reach.specs.Scenes.{Stands}
 use Rattle.uses.specs.Uses.{Event, Use}
@@ -25,8 +26,8 @@ range_placed (Held q tick) p r h = subst (λ x. x < 512) h r.0
 placed : (t : Table) → KeptWhole t → Placed t
 placed t k l p h = range_placed (lane_at t.lanes l).state p (k.lanes l).0 h
 
-module _ {O : Type 0} (waits : O → Message → ℕ) (total capacity : O → ℕ) where
-  use_safe : (t : Table) (o : O) (h : List Event) → Use waits total capacity t o h → KeptSafe t
+module _ {O : Type 0} (meaning : Meaning O) where
+  use_safe : (t : Table) (o : O) (h : List Event) → Use meaning t o h → KeptSafe t
   use_safe t o h (clear vacant) = cleared_safe
   use_safe t o h (load words answer t' u c) = load_safe _ words answer t c (use_safe _ _ _ u)
   use_safe t o h (start lane place tick answer t' before after u c) = start_safe _ lane place tick answer t before after c (use_safe _ _ _ u)
@@ -37,10 +38,10 @@ module _ {O : Type 0} (waits : O → Message → ℕ) (total capacity : O → �
   use_safe t o h (check pattern answer t' before after u c) = check_safe _ pattern answer t before after c (use_safe _ _ _ u)
   use_safe t o h (remove pattern answer t' u c) = remove_safe _ pattern answer t c (use_safe _ _ _ u)
   use_safe t o h (release pattern answer t' u c) = release_safe _ pattern answer t c (use_safe _ _ _ u)
-  use_safe t o h (step lane answer t' o' u c) = step_safe waits total capacity _ _ lane answer t o c (placed _ (use_whole waits total capacity _ _ _ u)) (use_safe _ _ _ u)
+  use_safe t o h (step lane answer t' o' u c) = step_safe meaning _ _ lane answer t o c (placed _ (use_whole meaning _ _ _ u)) (use_safe _ _ _ u)
   use_safe t o h (take answer o' u c) = use_safe _ _ _ u
 
-  pub law : Law waits total capacity
+  pub law : Law meaning
   law t o h u =
-      let k : KeptWhole t = use_whole waits total capacity t o h u in
-      record { safe = safe_of t (placed t k) (use_safe t o h u); exact = exact t; balanced = use_balanced waits total capacity t o h u; whole = whole_of t k }
+      let k : KeptWhole t = use_whole meaning t o h u in
+      record { safe = safe_of t (placed t k) (use_safe t o h u); exact = exact t; balanced = use_balanced meaning t o h u; whole = whole_of t k }

@@ -11,6 +11,7 @@ use Rattle.image.specs.declared.places.Image.{Image}
 use Rattle.image.specs.Reading.{read_image}
 use Rattle.structure.specs.Nodes.{node_at}
 use Rattle.outlets.specs.declared.message.Message.{Message}
+use Rattle.outlets.specs.Meaning.{Meaning}
 use Rattle.table.specs.declared.fault.Fault.{Fault as TableFault}
 use Rattle.table.specs.declared.fault.Fault.TheVariants as table
 use Rattle.table.specs.declared.state.Table.{Table}
@@ -167,10 +168,10 @@ module _ (P : Table → Type 0) (t : Table) (kept : P t) where
   pub release_keeps : (pattern : ℕ) (answer : Result (Unit {0}) Fault) (n : Table) → P (check_changed t None) → Release t pattern answer n → P n
   release_keeps pattern answer n made h = is_kept n _ (permit_keeps pattern (check_changed t None) (λ _. made)) h.1
 
-  module _ {O : Type 0} (waits : O → Message → ℕ) (total capacity : O → ℕ) (l : ℕ) (made : (accepted : Bool) → P (stepped accepted t l).table) where
-    steps_if_keeps : (exists : Bool) (o : O) (answer : Result Step Fault) (n : Table) (o' : O) → StepsIf waits total capacity exists t o l answer n o' → P n
+  module _ {O : Type 0} (meaning : Meaning O) (l : ℕ) (made : (accepted : Bool) → P (stepped accepted t l).table) where
+    steps_if_keeps : (exists : Bool) (o : O) (answer : Result Step Fault) (n : Table) (o' : O) → StepsIf meaning exists t o l answer n o' → P n
     steps_if_keeps true o answer n o' h = is_kept n (stepped h.0 t l).table (made h.0) h.3
     steps_if_keeps false o answer n o' h = is_kept n t kept h.1
 
-    pub steps_keeps : (o : O) (answer : Result Step Fault) (n : Table) (o' : O) → Steps waits total capacity t o l answer n o' → P n
+    pub steps_keeps : (o : O) (answer : Result Step Fault) (n : Table) (o' : O) → Steps meaning t o l answer n o' → P n
     steps_keeps o answer n o' h = steps_if_keeps (ltb l 8) o answer n o' h

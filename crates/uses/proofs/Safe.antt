@@ -6,6 +6,7 @@ use Rattle.lanes.specs.declared.lane.LaneCall.{LaneCall}
 use Rattle.lanes.specs.Lanes.{idle_lane}
 use Rattle.image.proofs.Run.{only_accepted}
 use Rattle.outlets.specs.declared.message.Message.{Message}
+use Rattle.outlets.specs.Meaning.{Meaning}
 use Rattle.table.specs.declared.state.Table.{Table}
 use Rattle.table.specs.Tables.{cleared, loaded}
 use Rattle.table.specs.Changes.{queued}
@@ -107,10 +108,10 @@ command_safe t block word answer n before after h s =
 pub call_safe : (call : LaneCall) → Stays call → (t : Table) (l : ℕ) (answer : Result (Unit {0}) Fault) (n : Table) → CallOnLane call t l answer n → KeptSafe t → KeptSafe n
 call_safe call stays t l answer n h s = call_keeps KeptSafe t s call l answer n (calm_safe t _ (call_calm call stays t l) s) h
 
-module _ {O : Type 0} (waits : O → Message → ℕ) (total capacity : O → ℕ) where
-  pub step_safe : (t : Table) (o : O) (l : ℕ) (answer : Result Step Fault) (n : Table) (o' : O) → Steps waits total capacity t o l answer n o' → Placed t → KeptSafe t → KeptSafe n
+module _ {O : Type 0} (meaning : Meaning O) where
+  pub step_safe : (t : Table) (o : O) (l : ℕ) (answer : Result Step Fault) (n : Table) (o' : O) → Steps meaning t o l answer n o' → Placed t → KeptSafe t → KeptSafe n
   step_safe t o l answer n o' h placed s =
-      steps_keeps KeptSafe t s waits total capacity l (λ accepted. calm_safe t (stepped accepted t l).table (step_calm accepted t l placed) s) o answer n o' h
+      steps_keeps KeptSafe t s meaning l (λ accepted. calm_safe t (stepped accepted t l).table (step_calm accepted t l placed) s) o answer n o' h
 
 -- ### check, remove and release
 

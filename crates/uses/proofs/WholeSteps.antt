@@ -18,6 +18,7 @@ use Rattle.image.specs.Nodes.{AllowedPlace, AllowedNode, AllowedBody}
 use Rattle.structure.specs.Nodes.{node_at, lists}
 use Rattle.structure.specs.Structure.{misses, node_unlisted, body_unlisted}
 use Rattle.outlets.specs.declared.message.Message.{Message}
+use Rattle.outlets.specs.Meaning.{Meaning}
 use Rattle.table.specs.declared.state.Table.{Table}
 use Rattle.table.specs.Changes.{rows_at, state_changed, node_changed, queued}
 use Rattle.reach.specs.Book.{is_block}
@@ -141,6 +142,6 @@ module _ (accepted : Bool) (t : Table) (l : ℕ) (k : KeptWhole t) where
   pub stepped_whole : KeptWhole (stepped accepted t l).table
   stepped_whole = state_whole (lane_at t.lanes l).state (k.lanes l).0
 
-module _ {O : Type 0} (waits : O → Message → ℕ) (total capacity : O → ℕ) where
-  pub steps_whole : (t : Table) (o : O) (l : ℕ) (answer : Result Step Fault) (t' : Table) (o' : O) → Steps waits total capacity t o l answer t' o' → KeptWhole t → KeptWhole t'
-  steps_whole t o l answer t' o' h k = steps_keeps KeptWhole t k waits total capacity l (λ accepted. stepped_whole accepted t l k) o answer t' o' h
+module _ {O : Type 0} (meaning : Meaning O) where
+  pub steps_whole : (t : Table) (o : O) (l : ℕ) (answer : Result Step Fault) (t' : Table) (o' : O) → Steps meaning t o l answer t' o' → KeptWhole t → KeptWhole t'
+  steps_whole t o l answer t' o' h k = steps_keeps KeptWhole t k meaning l (λ accepted. stepped_whole accepted t l k) o answer t' o' h

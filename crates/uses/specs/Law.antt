@@ -8,6 +8,7 @@ use Rattle.rows.specs.Rows.{slot, Canonical}
 use Rattle.image.specs.Nodes.{image_words, live}
 use Rattle.structure.specs.Nodes.{node_at}
 use Rattle.outlets.specs.declared.message.Message.{Message}
+use Rattle.outlets.specs.Meaning.{Meaning}
 use Rattle.table.specs.declared.state.Table.{Table}
 use Rattle.table.specs.Tables.{cleared, loaded}
 use Rattle.table.specs.Loading.{Loads}
@@ -95,5 +96,5 @@ pub record Holds {O : Type 0} (waits : O → Message → ℕ) (t : Table) (o : O
   pub whole : Whole t
 
 -- it holds at every point of every use
-abbrev pub Law : {O : Type 0} → (O → Message → ℕ) → (O → ℕ) → (O → ℕ) → Type 0
-Law {O} waits total capacity = (t : Table) (o : O) (h : List Event) → Use waits total capacity t o h → Holds waits t o h
+abbrev pub Law : {O : Type 0} → Meaning O → Type 0
+Law {O} meaning = (t : Table) (o : O) (h : List Event) → Use meaning t o h → Holds meaning.waits t o h

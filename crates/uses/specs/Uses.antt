@@ -2,6 +2,7 @@
 use Rattle.std.specs.Prelude.{◌≡◌, ℕ, ◌+◌, List, [], ◌∷◌, Some, None, Ok, Err, Option, Result}
 use Rattle.lanes.specs.declared.lane.LaneCall.TheVariants.{Hold, Resume, Abort}
 use Rattle.outlets.specs.declared.message.Message.{Message}
+use Rattle.outlets.specs.Meaning.{Meaning}
 use Rattle.outlets.specs.Messages.{one}
 use Rattle.table.specs.declared.state.Table.{Table}
 use Rattle.table.specs.Tables.{cleared}
@@ -64,10 +65,10 @@ takings x (quiet ∷ events) = takings x events
 
 -- ### uses
 
-module _ {O : Type 0} (waits : O → Message → ℕ) (total capacity : O → ℕ) where
+module _ {O : Type 0} (meaning : Meaning O) where
   -- nothing waits in the outlet
   abbrev pub Vacant : O → Type 0
-  Vacant o = (x : Message) → waits o x ≡ 0
+  Vacant o = (x : Message) → meaning.waits o x ≡ 0
 
   -- The tables, outlets and histories that some list of calls leads to, refused calls included, from a cleared table and an outlet in which
   -- nothing waits. A history has an event for each call, the latest first.
@@ -92,6 +93,6 @@ module _ {O : Type 0} (waits : O → Message → ℕ) (total capacity : O → �
     release : {t : Table} {o : O} {h : List Event} (pattern : ℕ) (answer : Result (Unit {0}) Fault) (t' : Table)
         → Use t o h → Release t pattern answer t' → Use t' o (quiet ∷ h)
     step : {t : Table} {o : O} {h : List Event} (lane : ℕ) (answer : Result Step Fault) (t' : Table) (o' : O)
-        → Use t o h → Steps waits total capacity t o lane answer t' o' → Use t' o' (step_event t lane answer ∷ h)
+        → Use t o h → Steps meaning t o lane answer t' o' → Use t' o' (step_event t lane answer ∷ h)
     take : {t : Table} {o : O} {h : List Event} (answer : Option Message) (o' : O)
-        → Use t o h → Takes waits total capacity o answer o' → Use t o' (take_event answer ∷ h)
+        → Use t o h → Takes meaning o answer o' → Use t o' (take_event answer ∷ h)

@@ -18,5 +18,5 @@ use outlets::Outlet;
 ///   the table loads into a cleared one as the same nodes; lanes, ticks and counts are within their limits; and at most
 ///   four entries wait in a row, each of which its block may have.
 pub fn law_of_uses<O: Outlet>()
-    ensures { Law O.Outlet.waits O.Outlet.total O.Outlet.capacity }
+    ensures { Law O.Outlet.meaning }
 {}

@@ -2,4 +2,4 @@ use Rattle.uses.proofs.Law.{law}
 use Rattle.uses.proofs.law_of_uses.Goals as goal
 
 pub returns : goal.returns
-returns g c = law g.O.Outlet.waits g.O.Outlet.total g.O.Outlet.capacity
+returns g c = law g.O.Outlet.meaning

@@ -7,5 +7,5 @@ returns g c =
     let step = c.call.ensures in
     record {
       step = step;
-      history = continues o.waits o.total o.capacity c.args.outlet.now c.call.new.outlet c.args.request c.call.result step;
+      history = continues o.meaning c.args.outlet.now c.call.new.outlet c.args.request c.call.result step;
     }

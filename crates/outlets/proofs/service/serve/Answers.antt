@@ -15,7 +15,7 @@ loop-i-preserved g c =
     let replies = c.loop-i.replies in
     let asked : i < length requests = omega arith in
     let room : i < length replies = omega arith in (
-      run_next o.waits o.total o.capacity c.args.outlet.now c.loop-i.outlet c.answer.new.outlet requests replies i Take c.answer.result asked room c.loop-i.invariant.0 c.answer.ensures.step,
+      run_next o.meaning c.args.outlet.now c.loop-i.outlet c.answer.new.outlet requests replies i Take c.answer.result asked room c.loop-i.invariant.0 c.answer.ensures.step,
       rest_next replies c.args.replies.now i c.answer.result c.loop-i.invariant.1,
     )
 
@@ -28,11 +28,11 @@ returns g c =
     let requests = c.args.requests.now in
     let replies = c.loop-i.replies in
     let end : c.loop-i.i ≡ n = omega arith in
-    let run : Run o.waits o.total o.capacity first (take n requests) (take n replies) last =
-    subst (λ (k : ℕ). Run o.waits o.total o.capacity first (take k requests) (take k replies) last) end c.loop-i.invariant.0 in
+    let run : Run o.meaning first (take n requests) (take n replies) last =
+    subst (λ (k : ℕ). Run o.meaning first (take k requests) (take k replies) last) end c.loop-i.invariant.0 in
     record {
       count = c.min-n.ensures;
       rest = subst (λ (k : ℕ). drop k replies ≡ drop k c.args.replies.now) end c.loop-i.invariant.1;
       run = run;
-      balance = run_balanced o.waits o.total o.capacity first last (take n requests) (take n replies) run;
+      balance = run_balanced o.meaning first last (take n requests) (take n replies) run;
     }

@@ -9,5 +9,5 @@ returns g c =
     let lane = c.args.lane in
     record {
       exact = exact;
-      says = says o.waits o.total o.capacity (ltb lane 8) c.args.table.now c.args.outlet.now lane c.walk_any.result c.walk_any.new.table c.walk_any.new.outlet exact;
+      says = says o.meaning (ltb lane 8) c.args.table.now c.args.outlet.now lane c.walk_any.result c.walk_any.new.table c.walk_any.new.outlet exact;
     }

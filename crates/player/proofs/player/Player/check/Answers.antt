@@ -25,7 +25,7 @@ returns-in-Err g c =
     let left = c.check.new.chain in
     let exact = moved (λ before after. Check self.sequencer.table c.args.pattern (Err fault) table before after) (vec_items self.memory) slice left self.memory.items self.memory.len
     c.as_mut_slice-memory.ensures.value c.check.auto.chain c.as_mut_slice-memory.ensures.len c.in-Err.ensures.exact in
-    told_or_none g.O.Outlet.waits g.O.Outlet.total g.O.Outlet.capacity (stage_of self) _ (said.check c.args.pattern)
+    told_or_none g.O.Outlet.meaning (stage_of self) _ (said.check c.args.pattern)
     (refused_with name.Check fault c.as_slice.result.now) (Unit {0}) c.refused_with.result
     (made_cases (λ answer. told answer ≡ refused_with name.Check fault c.as_slice.result.now) c.refused_with.result c.refused_with.ensures)
     (Err fault, exact, ap (refused_with name.Check fault) c.as_slice.ensures.value, c.check.ensures.outlet)

@@ -23,7 +23,7 @@ returns g c =
     let left = c.command-answer.new.chain in
     let exact = moved (λ before after. Command self.sequencer.table c.args.block c.args.word answer table before after) (vec_items self.memory) slice left self.memory.items self.memory.len
     c.as_mut_slice-memory.ensures.value c.command-answer.auto.chain c.as_mut_slice-memory.ensures.len c.command-answer.ensures.exact in
-    told_or_none g.O.Outlet.waits g.O.Outlet.total g.O.Outlet.capacity (stage_of self) _ (said.command c.args.block c.args.word)
+    told_or_none g.O.Outlet.meaning (stage_of self) _ (said.command c.args.block c.args.word)
     (judged_told name.Command answer c.as_slice.result.now) (is_ok answer ≡ false) c.judged.result c.judged.ensures
     (answer, exact, ap (judged_told name.Command answer) c.as_slice.ensures.value, c.command-answer.ensures.outlet)
     (λ e. (command_kept self.sequencer.table table slice left c.args.block c.args.word answer e c.command-answer.ensures.exact, c.command-answer.ensures.outlet))

@@ -23,7 +23,7 @@ returns g c =
     let left = c.start-answer.new.chain in
     let exact = moved (λ before after. Start self.sequencer.table c.args.lane c.args.place c.args.tick answer table before after) (vec_items self.memory) slice left self.memory.items self.memory.len
     c.as_mut_slice-memory.ensures.value c.start-answer.auto.chain c.as_mut_slice-memory.ensures.len c.start-answer.ensures.exact in
-    told_or_none g.O.Outlet.waits g.O.Outlet.total g.O.Outlet.capacity (stage_of self) _ (said.start c.args.lane c.args.place c.args.tick)
+    told_or_none g.O.Outlet.meaning (stage_of self) _ (said.start c.args.lane c.args.place c.args.tick)
     (judged_told name.Start answer c.as_slice.result.now) (is_ok answer ≡ false) c.judged.result c.judged.ensures
     (answer, exact, ap (judged_told name.Start answer) c.as_slice.ensures.value, c.start-answer.ensures.outlet)
     (λ e. (start_kept self.sequencer.table table slice left c.args.lane c.args.place c.args.tick answer e c.start-answer.ensures.exact, c.start-answer.ensures.outlet))

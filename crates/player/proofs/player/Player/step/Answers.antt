@@ -6,5 +6,5 @@ pub invariant_of-self : goal.invariant_of-self
 invariant_of-self g c =
     let self = c.args.self.now in
     let after = c.step.new.self in
-    let same = step_check g.O.Outlet.waits g.O.Outlet.total g.O.Outlet.capacity self.sequencer.table self.sequencer.outlet c.args.lane c.step.result after.table after.outlet c.step.ensures.exact in
+    let same = step_check g.O.Outlet.meaning self.sequencer.table self.sequencer.outlet c.args.lane c.step.result after.table after.outlet c.step.ensures.exact in
     record { held = still_held self.permit self.sequencer.table.check after.table.check same self.held }

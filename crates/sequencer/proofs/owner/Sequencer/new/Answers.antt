@@ -6,4 +6,4 @@ use Rattle.sequencer.proofs.owner.Sequencer.new.Goals as goal
 pub returns : goal.returns
 returns g c =
     let o = g.O.Outlet in
-    record { exact = (c.cleared.ensures.value, refl); begins = begins o.waits o.total o.capacity c.args.outlet; law = law o.waits o.total o.capacity }
+    record { exact = (c.cleared.ensures.value, refl); begins = begins o.meaning c.args.outlet; law = law o.meaning }
