@@ -1,9 +1,8 @@
 //! What decides where lanes can come to, seen as a book of rules.
-ghost use Rattle.std.specs.Prelude.{◌≡◌, if◌then◌else◌, None, slice_index_or};
+ghost use Rattle.std.specs.Prelude.{◌≡◌, if◌then◌else◌, None};
 ghost use Rattle.lanes.specs.Lanes.{lane_at};
-ghost use Rattle.table.specs.Tables.{empty_rows};
 ghost use Rattle.reach.specs.Views.{scene_in};
-ghost use Rattle.reach.specs.Scenes.{node_in, rows_in};
+ghost use Rattle.reach.specs.Scenes.{scene_of, node_in, rows_in};
 ghost use Rattle.reach.specs.Book.{state_place, is_block, waiting_place, target_of, flow_place, rule_by, reach_rule};
 
 use crate::conclusion::{flow_place, is_block, next_place, state_place, target_of, waiting_place};
@@ -12,7 +11,7 @@ use lanes::Lanes;
 use rows::PlainRow;
 use rules::{Book, Rule};
 use structure::node_at;
-use table::Rows;
+use table::{Rows, Table};
 use words::Node;
 
 /// Nodes, rows and lanes, side by side: those of a table, or with other lanes that are only tried.
@@ -26,25 +25,23 @@ pub struct View<'a> {
     pub lanes: &'a Lanes,
 }
 
-/// The rows of a place; nothing waits past the places.
-fn rows_at(rows: &[Rows], place: u16) -> Rows
-    ensures { result ≡ slice_index_or rows.now place empty_rows }
-{
-    let at = place as usize;
-    if at < rows.len() {
-        rows[at]
-    } else {
-        Rows::empty()
-    }
-}
-
 /// Where the lane with the number `l` is, if it runs or is held.
 fn lane_place(lanes: Lanes, l: u16) -> Option<u16>
     ensures { result ≡ state_place (lane_at lanes l).state }
 {
-    match lanes.lane(l as usize) {
-        Some(lane) => state_place(lane.state),
-        None => None,
+    state_place(lanes.lane(l as usize)?.state)
+}
+
+/// A table's own nodes, rows and lanes.
+impl<'a> From<&'a Table> for View<'a> {
+    ghost from_gives = { λ table view. scene_in view ≡ scene_of table.now };
+
+    fn from(table: &'a Table) -> View<'a> {
+        View {
+            nodes: &table.nodes,
+            rows: &table.rows,
+            lanes: &table.lanes,
+        }
     }
 }
 
@@ -60,7 +57,9 @@ impl View<'_> {
         ensures { result ≡ rows_in (scene_in self.now) place }
     {
         let rows = self.rows;
-        rows_at(rows, place)
+        rows.get(usize::from(place))
+            .copied()
+            .unwrap_or(Rows::empty())
     }
 
     /// Where the entry `k` of a row leads, if the row's place has a block.

@@ -1,6 +1,7 @@
 //! What a table holds.
 ghost use Rattle.std.specs.Prelude.{◌≡◌};
 ghost use Rattle.table.specs.Tables.{empty_rows, cleared};
+ghost use Rattle.table.specs.Changes.{rows_at};
 ghost use Rattle.table.specs.Laws.{Sound};
 
 use lanes::Lanes;
@@ -52,6 +53,13 @@ impl Table {
             lanes: Lanes::idle(),
             check: None,
         }
+    }
+
+    /// The rows of a place; past the places nothing waits.
+    pub fn rows_at(&self, place: usize) -> Rows
+        ensures { result ≡ rows_at self.now place }
+    {
+        self.rows.get(place).copied().unwrap_or(Rows::empty())
     }
 
     /// A table with no node, idle lanes, counts of 0 and no open check.
