@@ -18,12 +18,10 @@ use Rattle.calls.specs.Trials.{running}
 set_back : {A : Type 0} (xs : List A) (i : ℕ) (x d : A) → set (set xs i x) i (get_or xs i d) ≡ xs
 set_back xs i x d = set-set xs i x (get_or xs i d) ∙ set-get_or xs i d
 
--- lanes that are kept where they are accepted, and otherwise have the one lane put back
-pub lane_back : (lanes tried : Lanes Lane) (i : ℕ) (lane before : Lane) (accepted : Bool) → tried ≡ with_lane lanes i lane → before ≡ lane_at lanes i
-    → cond accepted tried (with_lane tried i before) ≡ cond accepted (with_lane lanes i lane) lanes
-lane_back lanes tried i lane before true t b = t
-lane_back lanes tried i lane before false t b =
-    ap (with_lane tried i) b ∙ ap (λ (l : Lanes Lane). with_lane l i (lane_at lanes i)) t
+-- a lane that was changed, with what it was put back
+pub lane_back : (lanes tried : Lanes Lane) (i : ℕ) (lane : Lane) → tried ≡ with_lane lanes i lane → with_lane tried i (lane_at lanes i) ≡ lanes
+lane_back lanes tried i lane t =
+    ap (λ (l : Lanes Lane). with_lane l i (lane_at lanes i)) t
     ∙ ap (λ (items : List Lane). let r : Lanes Lane = record { lanes = record { items = items } } in r) (set_back lanes.lanes.items i lane idle_lane)
 
 idle_started : (lane : Lane) (place tick : ℕ) → lane.state ≡ Idle → lane_after lane (Start place tick) ≡ record { state = Running place tick; sent = lane.sent }

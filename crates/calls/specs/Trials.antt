@@ -22,6 +22,11 @@ unless None x = Ok x
 abbrev pub running : Lanes Lane → ℕ → ℕ → ℕ → Lanes Lane
 running lanes lane place tick = with_lane lanes lane (record { state = Running place tick; sent = (lane_at lanes lane).sent })
 
+-- the lanes with what the lane was, if anything is to be put back
+abbrev pub put_back : Lanes Lane → ℕ → Option Lane → Lanes Lane
+put_back lanes lane None = lanes
+put_back lanes lane (Some before) = with_lane lanes lane before
+
 -- the scene of a table with lanes that are only tried
 abbrev pub with_lanes : Table → Lanes Lane → Scene
 with_lanes t lanes = record { nodes = t.nodes; rows = t.rows; lanes = lanes }

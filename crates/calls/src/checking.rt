@@ -7,7 +7,7 @@ ghost use Rattle.calls.specs.Permits.{permit_pattern, fault_told, HandedBack, Sa
 use crate::fault::Fault;
 use crate::judge::used_place;
 use crate::permit::{Permit, Refused};
-use crate::refusals::check_refusal;
+use crate::refusals::checkable;
 use reach::{Line, OfPattern};
 use structure::lowest;
 use table::Table;
@@ -44,19 +44,14 @@ pub fn check(table: &mut Table, pattern: u32, chain: &mut [Line]) -> Result<Perm
     ensures told { Check table.old pattern (permit_pattern result) table.new chain.old chain.new }
     ensures unused { IfOk result (λ permit. permit.used ≡ false) }
 {
-    match check_refusal(table, pattern, chain.len()) {
-        Some(fault) => Err(fault),
-        None => check_pattern(table, pattern as u8, chain),
-    }
+    checkable(table, pattern, chain.len())?;
+    check_pattern(table, pattern as u8, chain)
 }
 
 fn is_open(check: Option<u8>, pattern: u8) -> bool
     ensures { result ≡ is_open check pattern }
 {
-    match check {
-        None => false,
-        Some(open) => open == pattern,
-    }
+    check == Some(pattern)
 }
 
 fn end_check(table: &mut Table)

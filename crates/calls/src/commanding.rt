@@ -10,7 +10,7 @@ use crate::fault::Fault;
 use crate::judge::judge_table;
 use crate::refusals::commanded;
 use reach::Line;
-use steps::{put, queue, rows_at};
+use steps::{put, queue};
 use table::Table;
 use words::Entry;
 
@@ -21,17 +21,15 @@ fn try_entry(table: &mut Table, block: u16, entry: Entry, chain: &mut [Line]) ->
     ensures judged { Allows (scene_of (queued table.old block entry)) result chain.old chain.new }
     ensures after { table.new ≡ (if is_ok result then queued table.old block entry else table.old) }
 {
-    let before = rows_at(table, block);
+    let before = table.rows_at(block as usize);
     if !queue(table, block, entry) {
         return Err(Fault::Row(block));
     }
-    match judge_table(table, chain) {
-        Ok(()) => Ok(()),
-        Err(fault) => {
-            put(&mut table.rows, block as usize, before);
-            Err(fault)
-        }
+    let answer = judge_table(table, chain);
+    if answer.is_err() {
+        put(&mut table.rows, block as usize, before);
     }
+    answer
 }
 
 /// Lets the order or the pass of the word wait at the block, unless lanes could come to an empty place then.
@@ -39,8 +37,6 @@ fn try_entry(table: &mut Table, block: u16, entry: Entry, chain: &mut [Line]) ->
 pub fn command(table: &mut Table, block: u32, word: u32, chain: &mut [Line]) -> Result<(), Fault>
     ensures { Command table.old block word result table.new chain.old chain.new }
 {
-    match commanded(table, block, word, chain.len()) {
-        Ok(entry) => try_entry(table, block as u16, entry, chain),
-        Err(fault) => Err(fault),
-    }
+    let entry = commanded(table, block, word, chain.len())?;
+    try_entry(table, block as u16, entry, chain)
 }

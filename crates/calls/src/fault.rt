@@ -2,9 +2,10 @@
 ghost use Rattle.std.specs.Prelude.{◌≡◌};
 ghost use Rattle.table.specs.declared.fault.Fault.TheVariants.{Words};
 ghost use Rattle.reach.specs.declared.fault.Fault.TheVariants.{Table};
-ghost use Rattle.calls.specs.declared.fault.Fault.TheVariants.{Below};
+ghost use Rattle.calls.specs.declared.fault.Fault.TheVariants.{Below, Memory};
 ghost use Rattle.calls.specs.Faults.{number_of, layer_of, place_of};
 
+use image::TooShort;
 use words::Layer;
 
 /// Why a call is refused.
@@ -85,6 +86,14 @@ impl From<table::Fault> for Fault {
 
     fn from(fault: table::Fault) -> Fault {
         Fault::Below(reach::Fault::Table(fault))
+    }
+}
+
+impl From<TooShort> for Fault {
+    ghost from_gives = { λ short r. r ≡ Memory short.needed };
+
+    fn from(short: TooShort) -> Fault {
+        Fault::Memory(short.needed)
     }
 }
 

@@ -24,12 +24,7 @@ pub(crate) fn judge_table(table: &Table, chain: &mut [Line]) -> Result<(), Fault
     requires { 512 ≤ length chain.old }
     ensures { Allows (scene_of table.now) result chain.old chain.new }
 {
-    let view = View {
-        nodes: &table.nodes,
-        rows: &table.rows,
-        lanes: &table.lanes,
-    };
-    judge(&view, chain)
+    judge(&View::from(table), chain)
 }
 
 /// A place of the pattern that lanes can come to, if there is one; the chain that shows it is written to the memory.
@@ -37,10 +32,5 @@ pub(crate) fn used_place(table: &Table, pattern: u8, chain: &mut [Line]) -> Opti
     requires { 512 ≤ length chain.old }
     ensures { Tells (scene_of table.now) (IsOfPattern (scene_of table.now) pattern) result chain.old chain.new }
 {
-    let view = View {
-        nodes: &table.nodes,
-        rows: &table.rows,
-        lanes: &table.lanes,
-    };
-    into_pattern(&view, pattern, chain)
+    into_pattern(&View::from(table), pattern, chain)
 }

@@ -5,17 +5,14 @@ ghost use Rattle.calls.specs.Calls.{Load, write_told};
 ghost use Rattle.calls.specs.Writing.{LoadsBack};
 
 use crate::fault::Fault;
-use crate::refusals::busy;
-use image::TooShort;
+use crate::refusals::not_busy;
 use table::Table;
 
 /// Loads an image: all its nodes are added, or none, and their number is told. Nothing is loaded while a check is open.
 pub fn load(table: &mut Table, words: &[u32]) -> Result<usize, Fault>
     ensures { Load table.old words.now result table.new }
 {
-    if let Some(fault) = busy(table.check) {
-        return Err(fault);
-    }
+    not_busy(table.check)?;
     Ok(table.load(words)?)
 }
 
@@ -26,8 +23,5 @@ pub fn write(table: &Table, words: &mut [u32]) -> Result<usize, Fault>
     ensures after { words.new ≡ write_leaves table.now.nodes words.old }
     ensures loads_back { LoadsBack table.now result words.new }
 {
-    match table.write(words) {
-        Ok(written) => Ok(written),
-        Err(TooShort { needed }) => Err(Fault::Memory(needed)),
-    }
+    Ok(table.write(words)?)
 }

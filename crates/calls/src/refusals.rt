@@ -1,12 +1,12 @@
 //! What is asked of each call before reach is judged, in the order of the answers: the first that fails is told.
 ghost use Rattle.std.specs.Prelude.{◌≡◌};
-ghost use Rattle.calls.specs.Refusals.{not_busy, idle_state, may_wait, listed, room_for, or_else, entry_in, start_refusal, command_refusal, check_refusal};
+ghost use Rattle.calls.specs.Refusals.{argument, lines_enough, not_busy, idle_state, may_wait, listed, room_for, or_else, entry_in, start_refusal, command_refusal, check_refusal};
 ghost use Rattle.calls.specs.Trials.{unless};
 
 use crate::fault::Fault;
 use lanes::LaneState;
 use reach::is_block;
-use steps::{has_room, rows_at};
+use steps::has_room;
 use structure::{Flaw, lists, node_at};
 use table::Table;
 use words::{Entry, Node, entry};
@@ -26,68 +26,75 @@ const TICKS: u64 = 281474976710656;
 /// How many lines the longest chain may have.
 const LINES: usize = 512;
 
-/// A check is open.
-pub(crate) fn busy(check: Option<u8>) -> Option<Fault>
-    ensures { result ≡ not_busy check }
+/// The argument with this number, counted from 0, is within its limit.
+fn argument(number: u8, within: bool) -> Result<(), Fault>
+    ensures { result ≡ unless (argument number within) tt }
+{
+    if within {
+        Ok(())
+    } else {
+        Err(Fault::Range(number))
+    }
+}
+
+/// The chain memory holds every chain.
+fn lines_enough(lines: usize) -> Result<(), Fault>
+    ensures { result ≡ unless (lines_enough lines) tt }
+{
+    if lines < LINES {
+        return Err(Fault::Memory(LINES));
+    }
+    Ok(())
+}
+
+/// No check is open.
+pub(crate) fn not_busy(check: Option<u8>) -> Result<(), Fault>
+    ensures { result ≡ unless (not_busy check) tt }
 {
     match check {
-        None => None,
-        Some(pattern) => Some(Fault::Busy(pattern)),
+        None => Ok(()),
+        Some(pattern) => Err(Fault::Busy(pattern)),
     }
 }
 
-/// The lane is not idle.
-fn not_idle(lane: u8, state: LaneState) -> Option<Fault>
-    ensures { result ≡ idle_state lane state }
+/// The lane is idle.
+fn idle_state(lane: u8, state: LaneState) -> Result<(), Fault>
+    ensures { result ≡ unless (idle_state lane state) tt }
 {
     match state {
-        LaneState::Idle => None,
-        _ => Some(Fault::State(lane)),
+        LaneState::Idle => Ok(()),
+        _ => Err(Fault::State(lane)),
     }
 }
 
-/// Why a start is refused before reach is judged.
-pub(crate) fn start_refusal(
+/// What is asked of a start before reach is judged.
+pub(crate) fn startable(
     table: &Table,
     lane: u32,
     place: u32,
     tick: u64,
     lines: usize,
-) -> Option<Fault>
-    ensures { result ≡ start_refusal table.now lane place tick lines }
+) -> Result<(), Fault>
+    ensures { result ≡ unless (start_refusal table.now lane place tick lines) tt }
 {
-    if lane >= LANES {
-        return Some(Fault::Range(0));
-    }
-    if place >= PLACES {
-        return Some(Fault::Range(1));
-    }
-    if tick >= TICKS {
-        return Some(Fault::Range(2));
-    }
-    if lines < LINES {
-        return Some(Fault::Memory(LINES));
-    }
-    if let Some(fault) = busy(table.check) {
-        return Some(fault);
-    }
+    argument(0, lane < LANES)?;
+    argument(1, place < PLACES)?;
+    argument(2, tick < TICKS)?;
+    lines_enough(lines)?;
+    not_busy(table.check)?;
     match table.lanes.lane(lane as usize) {
-        Some(held) => not_idle(lane as u8, held.state),
-        None => None,
+        Some(found) => idle_state(lane as u8, found.state),
+        None => Ok(()),
     }
 }
 
-/// Why a check is refused before reach is judged.
-pub(crate) fn check_refusal(table: &Table, pattern: u32, lines: usize) -> Option<Fault>
-    ensures { result ≡ check_refusal table.now pattern lines }
+/// What is asked of a check before reach is judged.
+pub(crate) fn checkable(table: &Table, pattern: u32, lines: usize) -> Result<(), Fault>
+    ensures { result ≡ unless (check_refusal table.now pattern lines) tt }
 {
-    if pattern >= PATTERNS {
-        return Some(Fault::Range(0));
-    }
-    if lines < LINES {
-        return Some(Fault::Memory(LINES));
-    }
-    busy(table.check)
+    argument(0, pattern < PATTERNS)?;
+    lines_enough(lines)?;
+    not_busy(table.check)
 }
 
 /// Whether the entry may wait at the node: a pass at every block, an order where the block lists its destination.
@@ -100,35 +107,25 @@ fn may_wait(node: Option<Node>, entry: Entry) -> bool
     }
 }
 
-/// Why an entry may not wait at the block.
-fn entry_refusal(table: &Table, block: u16, entry: Entry) -> Option<Fault>
-    ensures { result ≡ or_else (listed table.now block entry) (room_for table.now block entry) }
+/// The entry, where it may wait at the block and there is room for it.
+fn admitted(table: &Table, block: u16, entry: Entry) -> Result<Entry, Fault>
+    ensures { result ≡ unless (or_else (listed table.now block entry) (room_for table.now block entry)) entry }
 {
     if !may_wait(node_at(&table.nodes, block), entry) {
-        return Some(Fault::from(table::Fault::Flaw(Flaw::Listing(block))));
+        return Err(Fault::from(table::Fault::Flaw(Flaw::Listing(block))));
     }
-    if !has_room(rows_at(table, block), entry) {
-        return Some(Fault::Row(block));
+    if !has_room(table.rows_at(block as usize), entry) {
+        return Err(Fault::Row(block));
     }
-    None
+    Ok(entry)
 }
 
 /// The entry that a command asks for, unless it is refused before reach is judged.
 pub(crate) fn commanded(table: &Table, block: u32, word: u32, lines: usize) -> Result<Entry, Fault>
     ensures { result ≡ unless (command_refusal table.now block word lines) (entry_in word) }
 {
-    if block >= PLACES {
-        return Err(Fault::Range(0));
-    }
-    if lines < LINES {
-        return Err(Fault::Memory(LINES));
-    }
-    if let Some(fault) = busy(table.check) {
-        return Err(fault);
-    }
-    let entry = entry(word)?;
-    match entry_refusal(table, block as u16, entry) {
-        Some(fault) => Err(fault),
-        None => Ok(entry),
-    }
+    argument(0, block < PLACES)?;
+    lines_enough(lines)?;
+    not_busy(table.check)?;
+    admitted(table, block as u16, entry(word)?)
 }

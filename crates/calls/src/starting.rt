@@ -6,7 +6,7 @@ ghost use Rattle.calls.specs.Judging.{Judged};
 ghost use Rattle.calls.specs.Calls.{started, Start};
 
 use crate::fault::Fault;
-use crate::refusals::start_refusal;
+use crate::refusals::startable;
 use crate::trial::try_start;
 use reach::Line;
 use table::Table;
@@ -40,8 +40,6 @@ pub fn start(
 ) -> Result<(), Fault>
     ensures { Start table.old lane place tick result table.new chain.old chain.new }
 {
-    match start_refusal(table, lane, place, tick, chain.len()) {
-        Some(fault) => Err(fault),
-        None => start_idle(table, lane as usize, place as u16, tick, chain),
-    }
+    startable(table, lane, place, tick, chain.len())?;
+    start_idle(table, lane as usize, place as u16, tick, chain)
 }

@@ -1,8 +1,8 @@
 //! A start that is tried on the lanes, beside the nodes and the rows.
-ghost use Rattle.std.specs.Prelude.{◌≡◌, ◌<◌, ◌≤◌, false, length, is_ok, if◌then◌else◌};
+ghost use Rattle.std.specs.Prelude.{◌≡◌, ◌<◌, ◌≤◌, length, is_ok, if◌then◌else◌, Some};
 ghost use Rattle.lanes.specs.declared.lane.LaneState.TheVariants.{Idle};
-ghost use Rattle.lanes.specs.Lanes.{lane_at, with_lane};
-ghost use Rattle.calls.specs.Trials.{running, with_lanes, Allows};
+ghost use Rattle.lanes.specs.Lanes.{lane_at};
+ghost use Rattle.calls.specs.Trials.{running, with_lanes, put_back, Allows};
 
 use crate::fault::Fault;
 use crate::judge::judge;
@@ -14,22 +14,21 @@ use table::Table;
 struct Trial<'a> {
     lanes: &'a mut Lanes,
     lane: usize,
-    before: Lane,
-    accepted: bool,
+    /// What the lane was; nothing once the trial is accepted.
+    before: Option<Lane>,
 }
 
 impl<'a> Trial<'a> {
     fn new(lanes: &'a mut Lanes, lane: usize) -> Trial<'a>
         requires { lane < 8 }
-        ensures parts { (result.lanes.now ≡ lanes.old) × ((result.lane ≡ lane) × ((result.before ≡ lane_at lanes.old lane) × (result.accepted ≡ false))) }
+        ensures parts { (result.lanes.now ≡ lanes.old) × ((result.lane ≡ lane) × (result.before ≡ Some (lane_at lanes.old lane))) }
         ensures named { result.lanes.ghost_name ≡ lanes.entry.ghost_name }
     {
-        let before = *lanes.lane_mut(lane);
+        let before = Some(*lanes.lane_mut(lane));
         Trial {
             lanes,
             lane,
             before,
-            accepted: false,
         }
     }
 }
@@ -37,18 +36,16 @@ impl<'a> Trial<'a> {
 impl Drop for Trial<'_> {
     fn drop(self)
         requires { self.lane < 8 }
-        ensures { self.exit.0.now ≡ (if self.entry.accepted then self.entry.lanes.now else with_lane self.entry.lanes.now self.entry.lane self.entry.before) }
+        ensures { self.exit.0.now ≡ put_back self.entry.lanes.now self.entry.lane self.entry.before }
     {
-        if !self.accepted {
+        if let Some(before) = self.before {
             let lane = self.lane;
-            let before = self.before;
             *self.lanes.lane_mut(lane) = before;
         }
         let Trial {
             lanes: _,
             lane: _,
             before: _,
-            accepted: _,
         } = self;
     }
 }
@@ -82,6 +79,8 @@ pub(crate) fn try_start(
         lanes: trial.lanes,
     };
     let answer = judge(&view, chain);
-    trial.accepted = answer.is_ok();
+    if answer.is_ok() {
+        trial.before = None;
+    }
     answer
 }

@@ -10,10 +10,7 @@ use table::Table;
 pub fn step<O: Outlet>(table: &mut Table, outlet: &mut O, lane: u32) -> Result<Step, Fault>
     ensures { Steps O.Outlet.meaning table.old outlet.old lane result table.new outlet.new }
 {
-    match steps::step(table, outlet, lane as usize) {
-        Some(step) => Ok(step),
-        None => Err(Fault::Range(0)),
-    }
+    steps::step(table, outlet, lane as usize).ok_or(Fault::Range(0))
 }
 
 /// Hands out a message that waits in the outlet, or nothing where none does.

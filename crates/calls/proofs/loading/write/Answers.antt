@@ -1,4 +1,4 @@
-use Rattle.std.proofs.Common.{◌≡◌, ℕ, Ok, Result, refl, rules}
+use Rattle.std.proofs.Common.{◌≡◌, ℕ, Ok, Result, refl}
 use Rattle.image.specs.declared.places.TooShort.{TooShort}
 use Rattle.calls.specs.declared.fault.Fault.{Fault}
 use Rattle.calls.proofs.loading.write.Goals as goal
@@ -7,11 +7,5 @@ use Rattle.calls.proofs.loading.write.Goals as goal
 same_number : (m n : ℕ) → ◌≡◌ {A = Result ℕ Fault} (Ok m) (Ok n) → ◌≡◌ {A = Result ℕ TooShort} (Ok m) (Ok n)
 same_number m n e = cc
 
-pub returns-in-Ok : goal.returns-in-Ok
-returns-in-Ok c =
-    let told = c.in-Ok.ensures in
-    record {
-      value = search rules;
-      after = told.after;
-      loads_back = λ sound n e. let back = told.loads_back sound n (same_number c.in-Ok.written n e) in ((Ok _, back.0, refl), back.1);
-    }
+pub returns-clause-loads_back : goal.returns-clause-loads_back
+returns-clause-loads_back c = λ sound n e. let back = c.in_ok-write.ensures.loads_back sound n (same_number c.in_ok-write.field-0 n e) in ((Ok _, back.0, refl), back.1)

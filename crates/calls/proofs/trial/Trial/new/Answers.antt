@@ -1,9 +1,9 @@
-use Rattle.std.proofs.Common.{refl}
+use Rattle.std.proofs.Common.{Some, refl, ap}
 use Rattle.lanes.specs.Lanes.{idle_lane}
 use Rattle.calls.proofs.Restored.{lane_same}
 use Rattle.calls.proofs.trial.Trial.new.Goals as goal
 
 pub returns : goal.returns
 returns c =
-    let value = c.lane_mut-before.ensures.value idle_lane in
-    record { parts = (lane_same c.args.lanes.now c.args.lane _ value, (refl, (value, refl))); named = refl }
+    let value = c.lane_mut.ensures.value idle_lane in
+    record { parts = (lane_same c.args.lanes.now c.args.lane _ value, (refl, ap Some value)); named = refl }
