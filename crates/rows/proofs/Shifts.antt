@@ -1,16 +1,6 @@
 -- Lists of four, one of which is written or leaves.
-use Rattle.std.proofs.Common.{◌≡◌, ℕ, zero, suc, ◌+◌, ◌-◌, ◌<◌, ◌≤◌, List, [], ◌∷◌, ◌++◌, map, length, get_or, take, drop, refl, arith}
+use Rattle.std.proofs.Common.{◌≡◌, ℕ, zero, suc, ◌+◌, ◌-◌, ◌<◌, ◌≤◌, List, [], ◌∷◌, ◌++◌, length, get_or, take, drop, refl, arith}
 use lib.Seq.{take-append-le}
-
--- four elements, each under f
-pub four_map : {X : Type 0} (f : X → X) (d : X) (xs : List X) → length xs ≡ 4
-    → f (get_or xs 0 d) ∷ f (get_or xs 1 d) ∷ f (get_or xs 2 d) ∷ f (get_or xs 3 d) ∷ [] ≡ map f xs
-four_map f d [] l = absurd (omega arith)
-four_map f d (a ∷ []) l = absurd (omega arith)
-four_map f d (a ∷ b ∷ []) l = absurd (omega arith)
-four_map f d (a ∷ b ∷ c ∷ []) l = absurd (omega arith)
-four_map f d (a ∷ b ∷ c ∷ e ∷ []) l = refl
-four_map f d (a ∷ b ∷ c ∷ e ∷ g ∷ r) l = absurd (omega arith)
 
 -- four elements without the first, and another behind them
 pub four_left : {X : Type 0} (d z : X) (xs : List X) → length xs ≡ 4

@@ -67,11 +67,5 @@ pub(crate) fn moved_up(entries: [Entry; 4]) -> [Entry; 4]
 pub(crate) fn each_forgotten(entries: [Entry; 4], places: &[bool; 512]) -> [Entry; 4]
     ensures { result ≡ map (forgotten_entry places.now) entries }
 {
-    let [a, b, c, d] = entries;
-    [
-        entry::forgotten(a, places),
-        entry::forgotten(b, places),
-        entry::forgotten(c, places),
-        entry::forgotten(d, places),
-    ]
+    entries.map(|e| entry::forgotten(e, places))
 }
