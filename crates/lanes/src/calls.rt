@@ -31,12 +31,7 @@ impl Lane {
         ensures value { result ≡ lane_answer self.old call }
         ensures after { self.new ≡ lane_after self.old call }
     {
-        match next_state(self.state, call) {
-            Ok(state) => {
-                self.state = state;
-                Ok(())
-            }
-            Err(wrong) => Err(wrong),
-        }
+        self.state = next_state(self.state, call)?;
+        Ok(())
     }
 }

@@ -1,7 +1,7 @@
 //! One lane.
 
 /// What a lane is doing.
-#[derive(Clone, Copy)]
+#[derive(Clone, Copy, Debug, PartialEq, Eq)]
 pub enum LaneState {
     /// It walks nowhere, and has neither place nor tick.
     Idle,
@@ -12,7 +12,7 @@ pub enum LaneState {
 }
 
 /// A lane.
-#[derive(Clone, Copy)]
+#[derive(Clone, Copy, Debug, PartialEq, Eq)]
 pub struct Lane {
     /// What it is doing.
     pub state: LaneState,
@@ -21,7 +21,7 @@ pub struct Lane {
 }
 
 /// A call on a lane.
-#[derive(Clone, Copy)]
+#[derive(Clone, Copy, Debug, PartialEq, Eq)]
 pub enum LaneCall {
     /// An idle lane runs from a place and a tick on.
     Start { place: u16, tick: u64 },
@@ -34,5 +34,5 @@ pub enum LaneCall {
 }
 
 /// The lane is in another state than the call asks for.
-#[derive(Clone, Copy)]
+#[derive(Clone, Copy, Debug, PartialEq, Eq)]
 pub struct WrongState;

@@ -3,7 +3,9 @@
 
 mod calls;
 mod lane;
+mod number;
 mod record;
 
 pub use lane::{Lane, LaneCall, LaneState, WrongState};
+pub use number::LaneNumber;
 pub use record::{LaneFault, Lanes};

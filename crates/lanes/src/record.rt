@@ -5,6 +5,7 @@ ghost use Rattle.lanes.specs.contracts.record.Lanes.{the_row};
 ghost use Rattle.lanes.specs.Lanes.{idle_lanes, lane_at, call_answer, call_leaves};
 
 use crate::lane::{Lane, LaneCall, LaneState, WrongState};
+use crate::number::LaneNumber;
 use slots::Slots;
 
 /// Eight lanes, numbered 0 to 7.
@@ -14,12 +15,23 @@ pub struct Lanes<L = Lane> {
 }
 
 /// Why a call on one of the lanes is refused.
-#[derive(Clone, Copy)]
+#[derive(Clone, Copy, Debug, PartialEq, Eq)]
 pub enum LaneFault {
     /// There is no lane with the number.
     NoLane,
     /// The lane is in another state.
     WrongState,
+}
+
+impl From<WrongState> for LaneFault {
+    ghost use Rattle.std.specs.Prelude.{◌≡◌};
+    ghost use Rattle.lanes.specs.declared.record.LaneFault.TheVariants as of_fault;
+
+    ghost from_gives = { λ _ fault. fault ≡ of_fault.WrongState };
+
+    fn from(_: WrongState) -> LaneFault {
+        LaneFault::WrongState
+    }
 }
 
 impl<L> Lanes<L> {
@@ -30,6 +42,14 @@ impl<L> Lanes<L> {
         ensures value { (d : L) → result.now ≡ slice_index_or self.old.lanes.items i d }
     {
         self.lanes.slot_mut(i)
+    }
+
+    /// Lends the lane with the number. When the loan ends the other lanes are as they were.
+    pub fn at_mut(&mut self, number: LaneNumber) -> &mut L
+        ensures* follows { sem 𝓛 (follows (the_row L.row) L.row self.entry.ghost_name result.ghost_name (λ w. record { lanes = record { items = slice_set self.old.lanes.items number w } })) }
+        ensures value { (d : L) → result.now ≡ slice_index_or self.old.lanes.items number d }
+    {
+        self.lane_mut(usize::from(number))
     }
 }
 
@@ -51,11 +71,14 @@ impl Lanes {
     pub fn lane(&self, i: usize) -> Option<Lane>
         ensures { result ≡ (if nat_lt i 8 then Some (lane_at self.now i) else None) }
     {
-        if i < 8 {
-            Some(self.lanes.items[i])
-        } else {
-            None
-        }
+        self.lanes.items.get(i).copied()
+    }
+
+    /// The lane with the number.
+    pub fn at(&self, number: LaneNumber) -> Lane
+        ensures { result ≡ lane_at self.now number }
+    {
+        self.lanes.items[usize::from(number)]
     }
 
     /// Makes a call on the lane with the number `i`. A refused call changes nothing.
@@ -66,9 +89,7 @@ impl Lanes {
         if i >= 8 {
             return Err(LaneFault::NoLane);
         }
-        match self.lane_mut(i).call(call) {
-            Ok(()) => Ok(()),
-            Err(WrongState) => Err(LaneFault::WrongState),
-        }
+        self.lane_mut(i).call(call)?;
+        Ok(())
     }
 }

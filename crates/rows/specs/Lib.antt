@@ -1,4 +1,3 @@
-pub mod Checked
 pub mod Entries
 pub mod Lists
 pub mod Rows

@@ -26,7 +26,7 @@ fn leads_into(exit: Exit, places: &[bool; 512]) -> bool
 {
     match exit {
         Exit::End => false,
-        Exit::Place(place) => (place as usize) < places.len() && places[place as usize],
+        Exit::Place(place) => places.get(usize::from(place)).copied().unwrap_or(false),
     }
 }
 

@@ -3,7 +3,6 @@
 
 mod entry;
 mod plain;
-mod queue;
 mod row;
 
 pub use plain::{BLANK, PlainRow, blank_behind};

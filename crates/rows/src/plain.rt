@@ -1,6 +1,5 @@
 //! Rows as they lie in a table.
-ghost use Rattle.std.specs.Prelude.{◌≡◌, map, length};
-ghost use Rattle.rows.specs.Entries.{forgotten_entry};
+ghost use Rattle.std.specs.Prelude.{◌≡◌};
 ghost use Rattle.rows.specs.Rows.{Canonical, ToldByWaiting, empty_row, moved_up, forgotten};
 
 use crate::entry;
@@ -39,10 +38,9 @@ impl PlainRow {
     pub fn forgotten(self, places: &[bool; 512]) -> PlainRow
         ensures { result ≡ forgotten places.now self }
     {
-        let entries = each_forgotten(self.entries, places);
         PlainRow {
-            count: self.count,
-            entries,
+            entries: self.entries.map(|e| entry::forgotten(e, places)),
+            ..self
         }
     }
 }
@@ -56,22 +54,8 @@ pub fn blank_behind()
 
 /// The entries without the first: the others move up, and the last slot is blank.
 pub(crate) fn moved_up(entries: [Entry; 4]) -> [Entry; 4]
-    ensures exact { result ≡ moved_up entries }
-    ensures four { length entries ≡ 4 }
+    ensures { result ≡ moved_up entries }
 {
     let [_, b, c, d] = entries;
     [b, c, d, BLANK]
-}
-
-/// The entries, each with no repeats where it is an order to one of the marked places.
-pub(crate) fn each_forgotten(entries: [Entry; 4], places: &[bool; 512]) -> [Entry; 4]
-    ensures { result ≡ map (forgotten_entry places.now) entries }
-{
-    let [a, b, c, d] = entries;
-    [
-        entry::forgotten(a, places),
-        entry::forgotten(b, places),
-        entry::forgotten(c, places),
-        entry::forgotten(d, places),
-    ]
 }
