@@ -1,17 +1,11 @@
 //! Elements of a slice at any position.
-ghost use Rattle.std.specs.Prelude.{◌≡◌, slice_index_or, slice_set};
-
-/// The element at a position, or `none` past the end.
-pub(crate) fn element<T: Copy>(items: &[T], at: usize, none: T) -> T
-    ensures { result ≡ slice_index_or items.now at none }
-{
-    if at < items.len() { items[at] } else { none }
-}
+ghost use Rattle.std.specs.Prelude.{◌≡◌, slice_set};
 
 /// Writes an element; past the end nothing is written.
 pub fn put<T: Copy>(items: &mut [T], at: usize, item: T)
     ensures { items.new ≡ slice_set items.old at item }
 {
+    // by `get_mut` the proof would not see what the slice holds once the element was lent
     if at < items.len() {
         items[at] = item;
     }

@@ -45,8 +45,7 @@ fn turned_body(body: Body, destination: Exit) -> Body
             period,
             alternatives: exchanged(alternatives, destination, next),
         },
-        Body::Message { .. } => body,
-        Body::Flow { .. } => body,
+        Body::Message { .. } | Body::Flow { .. } => body,
     }
 }
 
@@ -55,17 +54,10 @@ pub(crate) fn node_after(node: Node, ruling: Option<Entry>) -> Node
     ensures { result ≡ node_after node ruling }
 {
     match ruling {
-        None => node,
-        Some(Entry::Pass(_)) => node,
-        Some(Entry::Order(order)) => {
-            if order.repeats > 0 && order.lasting {
-                Node {
-                    pattern: node.pattern,
-                    body: turned_body(node.body, order.destination),
-                }
-            } else {
-                node
-            }
-        }
+        Some(Entry::Order(order)) if order.repeats > 0 && order.lasting => Node {
+            body: turned_body(node.body, order.destination),
+            ..node
+        },
+        _ => node,
     }
 }

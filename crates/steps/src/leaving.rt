@@ -1,5 +1,5 @@
 //! The step of a lane on a block.
-ghost use Rattle.std.specs.Prelude.{◌≡◌, ◌+◌, ◌<◌, if◌then◌else◌, Some, None, nat_le};
+ghost use Rattle.std.specs.Prelude.{◌≡◌, ◌+◌, if◌then◌else◌, Some, None, nat_le};
 ghost use Rattle.table.specs.Changes.{rows_at};
 ghost use Rattle.steps.specs.Limits.{limit};
 ghost use Rattle.steps.specs.Steps.{ruling, way, arrived, left_for, leaving, on_block};
@@ -8,8 +8,8 @@ use crate::answer::Step;
 use crate::elements::put;
 use crate::lane_state::{LIMIT, set_state};
 use crate::lasting::node_after;
-use crate::queueing::rows_at;
 use crate::row_use::{rows_used, ruling};
+use crate::visit::Visit;
 use lanes::LaneState;
 use table::Table;
 use words::{Entry, Exit, Node};
@@ -30,15 +30,8 @@ fn way(ruling: Option<Entry>, next: Exit) -> Exit
     ensures { result ≡ way ruling next }
 {
     match ruling {
-        None => next,
-        Some(Entry::Pass(_)) => next,
-        Some(Entry::Order(order)) => {
-            if order.repeats > 0 {
-                order.destination
-            } else {
-                next
-            }
-        }
+        Some(Entry::Order(order)) if order.repeats > 0 => order.destination,
+        _ => next,
     }
 }
 
@@ -62,44 +55,33 @@ fn left_for(exit: Exit) -> Step
     }
 }
 
-/// The lane leaves the block at the place by the way that the ruling entry says.
-fn leave(table: &mut Table, lane: usize, place: u16, later: u64, node: Node, next: Exit) -> Step
-    requires { lane < 8 }
-    ensures answer { result ≡ (leaving table.old lane place later node next (ruling (rows_at table.old place))).answer }
-    ensures after { table.new ≡ (leaving table.old lane place later node next (ruling (rows_at table.old place))).table }
-{
-    let rows = rows_at(table, place);
-    let ruling = ruling(rows);
-    put(
-        &mut table.nodes,
-        place as usize,
-        Some(node_after(node, ruling)),
-    );
-    put(&mut table.rows, place as usize, rows_used(rows));
-    let exit = way(ruling, next);
-    set_state(table, lane, arrived(exit, later));
-    left_for(exit)
-}
+impl Visit {
+    /// The lane leaves the block by the way that the ruling entry says.
+    fn leave(self, table: &mut Table, later: u64, node: Node, next: Exit) -> Step
+        ensures answer { result ≡ (leaving table.old self.lane self.place later node next (ruling (rows_at table.old self.place))).answer }
+        ensures after { table.new ≡ (leaving table.old self.lane self.place later node next (ruling (rows_at table.old self.place))).table }
+    {
+        let place = self.place as usize;
+        let rows = table.rows_at(place);
+        let ruling = ruling(rows);
+        put(&mut table.nodes, place, Some(node_after(node, ruling)));
+        put(&mut table.rows, place, rows_used(rows));
+        let exit = way(ruling, next);
+        set_state(table, self.lane, arrived(exit, later));
+        left_for(exit)
+    }
 
-/// On a block: the lane leaves it a period later, or becomes idle where the tick would pass its limit.
-pub(crate) fn on_block(
-    table: &mut Table,
-    lane: usize,
-    place: u16,
-    tick: u64,
-    node: Node,
-    next: Exit,
-    period: u32,
-) -> Step
-    requires { lane < 8 }
-    ensures answer { result ≡ (on_block table.old lane place tick node next period).answer }
-    ensures after { table.new ≡ (on_block table.old lane place tick node next period).table }
-{
-    match later(tick, period) {
-        None => {
-            set_state(table, lane, LaneState::Idle);
-            Step::Range
+    /// On a block: the lane leaves it a period later, or becomes idle where the tick would pass its limit.
+    pub(crate) fn on_block(self, table: &mut Table, node: Node, next: Exit, period: u32) -> Step
+        ensures answer { result ≡ (on_block table.old self.lane self.place self.tick node next period).answer }
+        ensures after { table.new ≡ (on_block table.old self.lane self.place self.tick node next period).table }
+    {
+        match later(self.tick, period) {
+            None => {
+                set_state(table, self.lane, LaneState::Idle);
+                Step::Range
+            }
+            Some(later) => self.leave(table, later, node, next),
         }
-        Some(later) => leave(table, lane, place, later, node, next),
     }
 }

@@ -10,9 +10,10 @@ mod leaving;
 mod queueing;
 mod row_use;
 mod sending;
+mod visit;
 mod walk;
 
 pub use answer::Step;
 pub use elements::put;
-pub use queueing::{has_room, queue, rows_at};
+pub use queueing::{has_room, queue};
 pub use walk::step;

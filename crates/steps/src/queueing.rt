@@ -4,17 +4,10 @@ ghost use Rattle.rows.specs.Rows.{joined};
 ghost use Rattle.table.specs.Changes.{is_urgent, row_of, rows_at, joined_rows, queued};
 ghost use Rattle.steps.specs.Limits.{has_room};
 
-use crate::elements::{element, put};
+use crate::elements::put;
 use rows::{PlainRow, Row};
 use table::{Rows, Table};
 use words::Entry;
-
-/// The rows of a place; past the places nothing waits.
-pub fn rows_at(table: &Table, place: u16) -> Rows
-    ensures { result ≡ rows_at table.now place }
-{
-    element(&table.rows, place as usize, Rows::empty())
-}
 
 fn is_urgent(entry: Entry) -> bool
     ensures { result ≡ is_urgent entry }
@@ -69,7 +62,7 @@ pub fn queue(table: &mut Table, block: u16, entry: Entry) -> bool
     ensures room { result ≡ has_room (row_of (rows_at table.old block) (is_urgent entry)) }
     ensures after { table.new ≡ (if result then queued table.old block entry else table.old) }
 {
-    match joined_rows(rows_at(table, block), entry) {
+    match joined_rows(table.rows_at(block as usize), entry) {
         None => false,
         Some(rows) => {
             put(&mut table.rows, block as usize, rows);

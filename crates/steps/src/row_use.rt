@@ -18,10 +18,7 @@ fn oldest(row: PlainRow) -> Option<Entry>
 pub(crate) fn ruling(rows: Rows) -> Option<Entry>
     ensures { result ≡ ruling rows }
 {
-    match oldest(rows.urgent) {
-        Some(entry) => Some(entry),
-        None => oldest(rows.plain),
-    }
+    oldest(rows.urgent).or(oldest(rows.plain))
 }
 
 fn repeats(entry: Entry) -> u8

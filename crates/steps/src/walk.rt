@@ -1,26 +1,23 @@
 //! The step of a lane.
-ghost use Rattle.std.specs.Prelude.{◌<◌, nat_lt};
+ghost use Rattle.std.specs.Prelude.{nat_lt};
 ghost use Rattle.steps.specs.Steps.{stepped, offer_of};
 ghost use Rattle.steps.specs.Walking.{Walks, LaneSteps};
 ghost use Rattle.steps.specs.Answers.{Says};
 
 use crate::answer::Step;
-use crate::flowing::on_flow;
-use crate::lane_state::{lane_at, set_state};
-use crate::leaving::on_block;
-use crate::sending::on_message;
-use lanes::LaneState;
+use crate::lane_state::set_state;
+use crate::visit::Visit;
+use lanes::{LaneNumber, LaneState};
 use outlets::Outlet;
 use structure::node_at;
 use table::Table;
 use words::Body;
 
-/// The step of a lane whose number is below 8.
-fn walk<O: Outlet>(table: &mut Table, outlet: &mut O, lane: usize) -> Step
-    requires { lane < 8 }
+/// The step of the lane with the number.
+fn walk<O: Outlet>(table: &mut Table, outlet: &mut O, lane: LaneNumber) -> Step
     ensures { Walks O.Outlet.meaning (offer_of table.old lane) (λ accepted. stepped accepted table.old lane) outlet.old result table.new outlet.new }
 {
-    let (place, tick) = match lane_at(table, lane).state {
+    let (place, tick) = match table.lanes.at(lane).state {
         LaneState::Idle => return Step::Idle,
         LaneState::Held { .. } => return Step::Held,
         LaneState::Running { place, tick } => (place, tick),
@@ -29,19 +26,20 @@ fn walk<O: Outlet>(table: &mut Table, outlet: &mut O, lane: usize) -> Step
         set_state(table, lane, LaneState::Idle);
         return Step::Ended;
     };
+    let visit = Visit { lane, place, tick };
     match node.body {
         Body::Message {
             next,
             offset,
             event,
-        } => on_message(table, outlet, lane, tick, next, offset, event),
-        Body::Block { next, period, .. } => on_block(table, lane, place, tick, node, next, period),
+        } => visit.on_message(table, outlet, next, offset, event),
+        Body::Block { next, period, .. } => visit.on_block(table, node, next, period),
         Body::Flow {
             next,
             target,
             order,
             ..
-        } => on_flow(table, lane, tick, next, target, order),
+        } => visit.on_flow(table, next, target, order),
     }
 }
 
@@ -49,11 +47,8 @@ fn walk<O: Outlet>(table: &mut Table, outlet: &mut O, lane: usize) -> Step
 fn walk_any<O: Outlet>(table: &mut Table, outlet: &mut O, lane: usize) -> Option<Step>
     ensures { LaneSteps O.Outlet.meaning (nat_lt lane 8) table.old outlet.old lane result table.new outlet.new }
 {
-    if lane < 8 {
-        Some(walk(table, outlet, lane))
-    } else {
-        None
-    }
+    let lane = LaneNumber::new(u32::try_from(lane).ok()?)?;
+    Some(walk(table, outlet, lane))
 }
 
 /// Lets a lane take one step, and says what it came to; there is no lane above 7.
