@@ -4,15 +4,12 @@ ghost use Rattle.calls.specs.Refusals.{argument, lines_enough, not_busy, idle_st
 ghost use Rattle.calls.specs.Trials.{unless};
 
 use crate::fault::Fault;
-use lanes::LaneState;
+use lanes::{LaneNumber, LaneState};
 use reach::is_block;
 use steps::has_room;
 use structure::{Flaw, lists, node_at};
 use table::Table;
 use words::{Entry, Node, entry};
-
-/// How many lanes there are.
-const LANES: u32 = 8;
 
 /// How many places a table has.
 const PLACES: u32 = 512;
@@ -58,34 +55,32 @@ pub(crate) fn not_busy(check: Option<u8>) -> Result<(), Fault>
 }
 
 /// The lane is idle.
-fn idle_state(lane: u8, state: LaneState) -> Result<(), Fault>
+fn idle_state(lane: LaneNumber, state: LaneState) -> Result<(), Fault>
     ensures { result ≡ unless (idle_state lane state) tt }
 {
     match state {
         LaneState::Idle => Ok(()),
-        _ => Err(Fault::State(lane)),
+        _ => Err(Fault::State(u8::from(lane))),
     }
 }
 
-/// What is asked of a start before reach is judged.
+/// The number of the lane that a start asks for, unless it is refused before reach is judged.
 pub(crate) fn startable(
     table: &Table,
     lane: u32,
     place: u32,
     tick: u64,
     lines: usize,
-) -> Result<(), Fault>
-    ensures { result ≡ unless (start_refusal table.now lane place tick lines) tt }
+) -> Result<LaneNumber, Fault>
+    ensures { result ≡ unless (start_refusal table.now lane place tick lines) lane }
 {
-    argument(0, lane < LANES)?;
+    let number = LaneNumber::new(lane).ok_or(Fault::Range(0))?;
     argument(1, place < PLACES)?;
     argument(2, tick < TICKS)?;
     lines_enough(lines)?;
     not_busy(table.check)?;
-    match table.lanes.lane(lane as usize) {
-        Some(found) => idle_state(lane as u8, found.state),
-        None => Ok(()),
-    }
+    idle_state(number, table.lanes.at(number).state)?;
+    Ok(number)
 }
 
 /// What is asked of a check before reach is judged.

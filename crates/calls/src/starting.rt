@@ -1,5 +1,5 @@
 //! Starting a lane.
-ghost use Rattle.std.specs.Prelude.{◌≡◌, ◌<◌, ◌≤◌, length};
+ghost use Rattle.std.specs.Prelude.{◌≡◌, ◌≤◌, length};
 ghost use Rattle.lanes.specs.declared.lane.LaneState.TheVariants.{Idle};
 ghost use Rattle.lanes.specs.Lanes.{lane_at};
 ghost use Rattle.calls.specs.Judging.{Judged};
@@ -8,17 +8,17 @@ ghost use Rattle.calls.specs.Calls.{started, Start};
 use crate::fault::Fault;
 use crate::refusals::startable;
 use crate::trial::try_start;
+use lanes::LaneNumber;
 use reach::Line;
 use table::Table;
 
 fn start_idle(
     table: &mut Table,
-    lane: usize,
+    lane: LaneNumber,
     place: u16,
     tick: u64,
     chain: &mut [Line],
 ) -> Result<(), Fault>
-    requires within { lane < 8 }
     requires idle { (lane_at table.old.lanes lane).state ≡ Idle }
     requires memory { 512 ≤ length chain.old }
     ensures { Judged (started table.old lane place tick) result table.old table.new chain.old chain.new }
@@ -40,6 +40,6 @@ pub fn start(
 ) -> Result<(), Fault>
     ensures { Start table.old lane place tick result table.new chain.old chain.new }
 {
-    startable(table, lane, place, tick, chain.len())?;
-    start_idle(table, lane as usize, place as u16, tick, chain)
+    let lane = startable(table, lane, place, tick, chain.len())?;
+    start_idle(table, lane, place as u16, tick, chain)
 }

@@ -1,4 +1,4 @@
-use Rattle.std.proofs.Common.{◌≡◌, Bool, cond, is_ok, ap, ◌∙◌, subst, rules}
+use Rattle.std.proofs.Common.{◌≡◌, ◌<◌, Bool, cond, is_ok, ap, ◌∙◌, subst, rules}
 use Rattle.lanes.specs.declared.lane.Lane.{Lane}
 use Rattle.lanes.specs.declared.lane.LaneCall.TheVariants.{Start}
 use Rattle.lanes.specs.declared.lane.LaneState.TheVariants.{Running}
@@ -17,8 +17,12 @@ returns c =
     let place = c.args.place in
     let tick = c.args.tick in
     let parts = c.new-trial.ensures.parts in
+    let number = c.from.ensures in
     let tried : c.call.new.self ≡ running lanes i place tick =
-    c.call.ensures.after ∙ ap (λ (l : Lanes Lane). call_leaves l i (Start place tick)) parts.0 ∙ started_lanes lanes i place tick c.requires.within c.requires.idle in
+    c.call.ensures.after
+    ∙ ap (λ n. call_leaves c.new-trial.result.lanes.now n (Start place tick)) number.0
+    ∙ ap (λ (l : Lanes Lane). call_leaves l i (Start place tick)) parts.0
+    ∙ started_lanes lanes i place tick (subst (λ n. n < 8) number.0 number.1) c.requires.idle in
     let P : Lanes Lane → Type 0 = λ l. Allows (with_lanes c.args.table.now l) c.judge-answer.result c.args.chain.now c.judge-answer.new.chain in
     let Left : Trial → Lanes Lane = λ trial. put_back trial.lanes.now trial.lane trial.before in
     let kept : Bool → Lanes Lane = λ accepted. cond accepted (running lanes i place tick) lanes in
