@@ -52,7 +52,7 @@ impl<O: Outlet> Sequencer<O> {
     pub fn load(&mut self, words: &[u32]) -> Result<usize, Fault>
         ensures exact { Load self.old.table words.now result self.new.table }
         ensures outlet { self.new.outlet ≡ self.old.outlet }
-        ensures goes_on { GoesOn O.Outlet.meaning self.old.table self.old.outlet quiet self.new.table self.new.outlet }
+        ensures goes_on { GoesOn O.Outlet.meaning self.old quiet self.new }
     {
         calls::load(&mut self.table, words)
     }
@@ -75,7 +75,7 @@ impl<O: Outlet> Sequencer<O> {
     ) -> Result<(), Fault>
         ensures exact { Start self.old.table lane place tick result self.new.table chain.old chain.new }
         ensures outlet { self.new.outlet ≡ self.old.outlet }
-        ensures goes_on { GoesOn O.Outlet.meaning self.old.table self.old.outlet quiet self.new.table self.new.outlet }
+        ensures goes_on { GoesOn O.Outlet.meaning self.old quiet self.new }
     {
         calls::start(&mut self.table, lane, place, tick, chain)
     }
@@ -84,7 +84,7 @@ impl<O: Outlet> Sequencer<O> {
     pub fn hold(&mut self, lane: u32) -> Result<(), Fault>
         ensures exact { CallOnLane Hold self.old.table lane result self.new.table }
         ensures outlet { self.new.outlet ≡ self.old.outlet }
-        ensures goes_on { GoesOn O.Outlet.meaning self.old.table self.old.outlet quiet self.new.table self.new.outlet }
+        ensures goes_on { GoesOn O.Outlet.meaning self.old quiet self.new }
     {
         calls::hold(&mut self.table, lane)
     }
@@ -93,7 +93,7 @@ impl<O: Outlet> Sequencer<O> {
     pub fn resume(&mut self, lane: u32) -> Result<(), Fault>
         ensures exact { CallOnLane Resume self.old.table lane result self.new.table }
         ensures outlet { self.new.outlet ≡ self.old.outlet }
-        ensures goes_on { GoesOn O.Outlet.meaning self.old.table self.old.outlet quiet self.new.table self.new.outlet }
+        ensures goes_on { GoesOn O.Outlet.meaning self.old quiet self.new }
     {
         calls::resume(&mut self.table, lane)
     }
@@ -102,7 +102,7 @@ impl<O: Outlet> Sequencer<O> {
     pub fn abort(&mut self, lane: u32) -> Result<(), Fault>
         ensures exact { CallOnLane Abort self.old.table lane result self.new.table }
         ensures outlet { self.new.outlet ≡ self.old.outlet }
-        ensures goes_on { GoesOn O.Outlet.meaning self.old.table self.old.outlet quiet self.new.table self.new.outlet }
+        ensures goes_on { GoesOn O.Outlet.meaning self.old quiet self.new }
     {
         calls::abort(&mut self.table, lane)
     }
@@ -111,7 +111,7 @@ impl<O: Outlet> Sequencer<O> {
     pub fn command(&mut self, block: u32, word: u32, chain: &mut [Line]) -> Result<(), Fault>
         ensures exact { Command self.old.table block word result self.new.table chain.old chain.new }
         ensures outlet { self.new.outlet ≡ self.old.outlet }
-        ensures goes_on { GoesOn O.Outlet.meaning self.old.table self.old.outlet quiet self.new.table self.new.outlet }
+        ensures goes_on { GoesOn O.Outlet.meaning self.old quiet self.new }
     {
         calls::command(&mut self.table, block, word, chain)
     }
@@ -119,7 +119,7 @@ impl<O: Outlet> Sequencer<O> {
     /// Makes one step of a lane, which may send a message to the outlet.
     pub fn step(&mut self, lane: u32) -> Result<Step, Fault>
         ensures exact { Steps O.Outlet.meaning self.old.table self.old.outlet lane result self.new.table self.new.outlet }
-        ensures goes_on { GoesOn O.Outlet.meaning self.old.table self.old.outlet (step_event self.old.table lane result) self.new.table self.new.outlet }
+        ensures goes_on { GoesOn O.Outlet.meaning self.old (step_event self.old.table lane result) self.new }
     {
         calls::step(&mut self.table, &mut self.outlet, lane)
     }
@@ -128,7 +128,7 @@ impl<O: Outlet> Sequencer<O> {
     pub fn take(&mut self) -> Option<Message>
         ensures exact { Takes O.Outlet.meaning self.old.outlet result self.new.outlet }
         ensures table { self.new.table ≡ self.old.table }
-        ensures goes_on { GoesOn O.Outlet.meaning self.old.table self.old.outlet (take_event result) self.new.table self.new.outlet }
+        ensures goes_on { GoesOn O.Outlet.meaning self.old (take_event result) self.new }
     {
         calls::take(&mut self.outlet)
     }

@@ -18,7 +18,7 @@ impl<O: Outlet> Sequencer<O> {
         ensures exact { Check self.old.table pattern (permit_pattern result) self.new.table chain.old chain.new }
         ensures unused { IfOk result (λ permit. permit.used ≡ false) }
         ensures outlet { self.new.outlet ≡ self.old.outlet }
-        ensures goes_on { GoesOn O.Outlet.meaning self.old.table self.old.outlet quiet self.new.table self.new.outlet }
+        ensures goes_on { GoesOn O.Outlet.meaning self.old quiet self.new }
     {
         calls::check(&mut self.table, pattern, chain)
     }
@@ -29,7 +29,7 @@ impl<O: Outlet> Sequencer<O> {
         ensures exact { Remove self.old.table permit.pattern (fault_told result) self.new.table }
         ensures handed_back { HandedBack permit result }
         ensures outlet { self.new.outlet ≡ self.old.outlet }
-        ensures goes_on { GoesOn O.Outlet.meaning self.old.table self.old.outlet quiet self.new.table self.new.outlet }
+        ensures goes_on { GoesOn O.Outlet.meaning self.old quiet self.new }
         ensures law { Law O.Outlet.meaning }
     {
         calls::remove(&mut self.table, permit)
@@ -40,7 +40,7 @@ impl<O: Outlet> Sequencer<O> {
         ensures exact { Release self.old.table permit.pattern (fault_told result) self.new.table }
         ensures handed_back { HandedBack permit result }
         ensures outlet { self.new.outlet ≡ self.old.outlet }
-        ensures goes_on { GoesOn O.Outlet.meaning self.old.table self.old.outlet quiet self.new.table self.new.outlet }
+        ensures goes_on { GoesOn O.Outlet.meaning self.old quiet self.new }
     {
         calls::release(&mut self.table, permit)
     }

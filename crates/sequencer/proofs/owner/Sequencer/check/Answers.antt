@@ -12,5 +12,5 @@ returns g c =
       exact = exact;
       unused = c.check.ensures.unused;
       outlet = refl;
-      goes_on = goes_on o.meaning _ _ uses.quiet _ _ (λ h u. uses.check c.args.pattern (permit_pattern c.check.result) c.check.new.table c.args.chain.now c.check.new.chain u exact);
+      goes_on = goes_on o.meaning _ uses.quiet _ (λ h u. uses.check c.args.pattern (permit_pattern c.check.result) c.check.new.table c.args.chain.now c.check.new.chain u exact);
     }

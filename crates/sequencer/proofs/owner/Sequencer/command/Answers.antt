@@ -10,5 +10,5 @@ returns g c =
     record {
       exact = exact;
       outlet = refl;
-      goes_on = goes_on o.meaning _ _ uses.quiet _ _ (λ h u. uses.command c.args.block c.args.word c.command.result c.command.new.table c.args.chain.now c.command.new.chain u exact);
+      goes_on = goes_on o.meaning _ uses.quiet _ (λ h u. uses.command c.args.block c.args.word c.command.result c.command.new.table c.args.chain.now c.command.new.chain u exact);
     }

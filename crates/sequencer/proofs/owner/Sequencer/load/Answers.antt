@@ -10,5 +10,5 @@ returns g c =
     record {
       exact = exact;
       outlet = refl;
-      goes_on = goes_on o.meaning _ _ uses.quiet _ _ (λ h u. uses.load c.args.words.now c.load.result c.load.new.table u exact);
+      goes_on = goes_on o.meaning _ uses.quiet _ (λ h u. uses.load c.args.words.now c.load.result c.load.new.table u exact);
     }

@@ -12,5 +12,5 @@ returns g c =
       exact = exact;
       handed_back = c.release.ensures.handed_back;
       outlet = refl;
-      goes_on = goes_on o.meaning _ _ uses.quiet _ _ (λ h u. uses.release c.args.permit.pattern (fault_told c.release.result) c.release.new.table u exact);
+      goes_on = goes_on o.meaning _ uses.quiet _ (λ h u. uses.release c.args.permit.pattern (fault_told c.release.result) c.release.new.table u exact);
     }

@@ -13,6 +13,6 @@ returns g c =
       exact = exact;
       handed_back = c.remove.ensures.handed_back;
       outlet = refl;
-      goes_on = goes_on o.meaning _ _ uses.quiet _ _ (λ h u. uses.remove c.args.permit.pattern (fault_told c.remove.result) c.remove.new.table u exact);
+      goes_on = goes_on o.meaning _ uses.quiet _ (λ h u. uses.remove c.args.permit.pattern (fault_told c.remove.result) c.remove.new.table u exact);
       law = law o.meaning;
     }

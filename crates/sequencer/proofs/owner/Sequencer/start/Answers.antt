@@ -10,5 +10,5 @@ returns g c =
     record {
       exact = exact;
       outlet = refl;
-      goes_on = goes_on o.meaning _ _ uses.quiet _ _ (λ h u. uses.start c.args.lane c.args.place c.args.tick c.start.result c.start.new.table c.args.chain.now c.start.new.chain u exact);
+      goes_on = goes_on o.meaning _ uses.quiet _ (λ h u. uses.start c.args.lane c.args.place c.args.tick c.start.result c.start.new.table c.args.chain.now c.start.new.chain u exact);
     }

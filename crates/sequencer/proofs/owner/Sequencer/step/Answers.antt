@@ -8,5 +8,5 @@ returns g c =
     let exact = c.step.ensures in
     record {
       exact = exact;
-      goes_on = goes_on o.meaning _ _ _ _ _ (λ h u. uses.step c.args.lane c.step.result c.step.new.table c.step.new.outlet u exact);
+      goes_on = goes_on o.meaning _ _ _ (λ h u. uses.step c.args.lane c.step.result c.step.new.table c.step.new.outlet u exact);
     }

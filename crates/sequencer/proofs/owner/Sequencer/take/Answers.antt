@@ -10,5 +10,5 @@ returns g c =
     record {
       exact = exact;
       table = refl;
-      goes_on = goes_on o.meaning _ _ _ _ _ (λ h u. uses.take c.take.result c.take.new.outlet u exact);
+      goes_on = goes_on o.meaning _ _ _ (λ h u. uses.take c.take.result c.take.new.outlet u exact);
     }
