@@ -1,6 +1,6 @@
 //! The reader of an image: it walks over the words in the caller's memory and keeps its position for faults.
 ghost use Rattle.std.specs.Prelude.{◌≡◌, ℕ, ◌+◌, ◌-◌, ◌^◌, ◌<◌, ◌≤◌, Bool, true, false, length, drop, IfOk, nat_lt};
-ghost use Rattle.image.specs.Reading.{judged, place_of, exit_of, time_of, period_of, event_of, target_of, order_of, alternative_of, alternative_in, fresh, message_of, queued_of, flow_of, block_of, alternatives_of, rest_of, cut_of, body_of, body_size, alternatives_size, end_of, node_of, part_size, above, read_image};
+ghost use Rattle.image.specs.Reading.{place_of, exit_of, time_of, period_of, event_of, target_of, order_of, alternative_of, alternative_in, fresh, message_of, queued_of, flow_of, block_of, alternatives_of, rest_of, cut_of, body_of, body_size, alternatives_size, end_of, node_of, part_size, above, read_image};
 ghost use Rattle.image.specs.Laws.{Accepts, Refuses, WritesBack};
 
 use crate::places::Image;
@@ -21,71 +21,74 @@ struct Reader<'a> {
     ghost inside: { position ≤ length words.now },
 }
 
-fn exit_of(w: u32, at: usize) -> Result<Exit, Fault>
-    ensures { result ≡ judged exit_of w at }
+/// The exit that `w` says where a next is wanted.
+fn exit_of(w: u32) -> Option<Exit>
+    ensures { result ≡ exit_of w }
 {
     match decode(w) {
-        Some(Word::Next(exit)) => Ok(exit),
-        _ => Err(Fault::BadWord(at)),
+        Some(Word::Next(exit)) => Some(exit),
+        _ => None,
     }
 }
 
-fn place_of(w: u32, at: usize) -> Result<u16, Fault>
-    ensures { result ≡ judged place_of w at }
+/// The place that `w` says where a next is wanted that is not the end.
+fn place_of(w: u32) -> Option<u16>
+    ensures { result ≡ place_of w }
+{
+    match exit_of(w) {
+        Some(Exit::Place(place)) => Some(place),
+        _ => None,
+    }
+}
+
+/// The number of ticks that `w` says where a time is wanted.
+fn time_of(w: u32) -> Option<u32>
+    ensures { result ≡ time_of w }
 {
     match decode(w) {
-        Some(Word::Next(Exit::Place(place))) => Ok(place),
-        _ => Err(Fault::BadWord(at)),
+        Some(Word::Time(time)) => Some(time),
+        _ => None,
     }
 }
 
-fn time_of(w: u32, at: usize) -> Result<u32, Fault>
-    ensures { result ≡ judged time_of w at }
+/// The period that `w` says, which is one tick at least.
+fn period_of(w: u32) -> Option<u32>
+    ensures { result ≡ period_of w }
+{
+    time_of(w).filter(|time| *time > 0)
+}
+
+/// The event that `w` says where one is wanted.
+fn event_of(w: u32) -> Option<u32>
+    ensures { result ≡ event_of w }
 {
     match decode(w) {
-        Some(Word::Time(time)) => Ok(time),
-        _ => Err(Fault::BadWord(at)),
+        Some(Word::Event(event)) => Some(event),
+        _ => None,
     }
 }
 
-fn period_of(w: u32, at: usize) -> Result<u32, Fault>
-    ensures { result ≡ judged period_of w at }
-{
-    let time = time_of(w, at)?;
-    if time > 0 {
-        Ok(time)
-    } else {
-        Err(Fault::BadWord(at))
-    }
-}
-
-fn event_of(w: u32, at: usize) -> Result<u32, Fault>
-    ensures { result ≡ judged event_of w at }
+/// The target that `w` says where one is wanted.
+fn target_of(w: u32) -> Option<u16>
+    ensures { result ≡ target_of w }
 {
     match decode(w) {
-        Some(Word::Event(event)) => Ok(event),
-        _ => Err(Fault::BadWord(at)),
+        Some(Word::Target(target)) => Some(target),
+        _ => None,
     }
 }
 
-fn target_of(w: u32, at: usize) -> Result<u16, Fault>
-    ensures { result ≡ judged target_of w at }
+/// The order that `w` says where one is wanted.
+fn order_of(w: u32) -> Option<Order>
+    ensures { result ≡ order_of w }
 {
     match decode(w) {
-        Some(Word::Target(target)) => Ok(target),
-        _ => Err(Fault::BadWord(at)),
+        Some(Word::Order(order)) => Some(order),
+        _ => None,
     }
 }
 
-fn order_of(w: u32, at: usize) -> Result<Order, Fault>
-    ensures { result ≡ judged order_of w at }
-{
-    match decode(w) {
-        Some(Word::Order(order)) => Ok(order),
-        _ => Err(Fault::BadWord(at)),
-    }
-}
-
+/// The alternative that `w` says, if it says one.
 fn alternative_of(w: u32) -> Option<Exit>
     ensures { result ≡ alternative_of w }
 {
@@ -134,12 +137,12 @@ fn message(next: u32, time: u32, rest: &[u32], at: usize) -> Result<Body, Fault>
     requires { at + 2 + length rest.now < 2 ^ 64 }
     ensures { result ≡ message_of next time rest.now at }
 {
-    let next = place_of(next, at)?;
-    let offset = time_of(time, at + 1)?;
+    let next = place_of(next).ok_or(Fault::BadWord(at))?;
+    let offset = time_of(time).ok_or(Fault::BadWord(at + 1))?;
     let [event, ..] = rest else {
         return Err(Fault::Ragged(at + 1 + 1));
     };
-    let event = event_of(*event, at + 1 + 1)?;
+    let event = event_of(*event).ok_or(Fault::BadWord(at + 1 + 1))?;
     Ok(Body::Message {
         next,
         offset,
@@ -151,8 +154,8 @@ fn block(next: u32, time: u32, rest: &[u32], at: usize) -> Result<Body, Fault>
     requires { at + 2 + length rest.now < 2 ^ 64 }
     ensures { result ≡ block_of next time rest.now at }
 {
-    let next = exit_of(next, at)?;
-    let period = period_of(time, at + 1)?;
+    let next = exit_of(next).ok_or(Fault::BadWord(at))?;
+    let period = period_of(time).ok_or(Fault::BadWord(at + 1))?;
     let alternatives = alternatives(rest, at + 1 + 1, next)?;
     Ok(Body::Block {
         next,
@@ -168,12 +171,12 @@ fn queued(words: &[u32], at: usize) -> Result<(u16, Order), Fault>
 {
     match words {
         [target, order, ..] => {
-            let target = target_of(*target, at)?;
-            let order = order_of(*order, at + 1)?;
+            let target = target_of(*target).ok_or(Fault::BadWord(at))?;
+            let order = order_of(*order).ok_or(Fault::BadWord(at + 1))?;
             Ok((target, order))
         }
         [target] => {
-            target_of(*target, at)?;
+            target_of(*target).ok_or(Fault::BadWord(at))?;
             Err(Fault::Ragged(at + 1))
         }
         [] => Err(Fault::Ragged(at)),
@@ -184,8 +187,8 @@ fn flow(next: u32, time: u32, rest: &[u32], at: usize) -> Result<Body, Fault>
     requires { at + 2 + length rest.now < 2 ^ 64 }
     ensures { result ≡ flow_of next time rest.now at }
 {
-    let next = place_of(next, at)?;
-    let offset = time_of(time, at + 1)?;
+    let next = place_of(next).ok_or(Fault::BadWord(at))?;
+    let offset = time_of(time).ok_or(Fault::BadWord(at + 1))?;
     let (target, order) = queued(rest, at + 1 + 1)?;
     Ok(Body::Flow {
         next,
@@ -202,10 +205,10 @@ fn cut(kind: Kind, next: u32, at: usize) -> Result<Body, Fault>
 {
     match kind {
         Kind::Message | Kind::Flow => {
-            place_of(next, at)?;
+            place_of(next).ok_or(Fault::BadWord(at))?;
         }
         Kind::Block => {
-            exit_of(next, at)?;
+            exit_of(next).ok_or(Fault::BadWord(at))?;
         }
     }
     Err(Fault::Ragged(at + 1))
