@@ -170,6 +170,17 @@ body_long (body.Message n t e) = refl
 body_long (body.Block n t a) = omega (arith, alternatives_long a)
 body_long (body.Flow n t g o) = refl
 
+alternatives_short : (a : Alternatives) → alternatives_size a ≤ 3
+alternatives_short ways.None = omega arith
+alternatives_short (ways.One x) = omega arith
+alternatives_short (ways.Two x y) = omega arith
+alternatives_short (ways.Three x y z) = omega arith
+
+pub body_short : (b : Body) → body_size b ≤ 5
+body_short (body.Message n t e) = omega arith
+body_short (body.Block n t a) = omega (arith, alternatives_short a)
+body_short (body.Flow n t g o) = omega arith
+
 -- the words of a body that is read are there
 pub body_fits : (kind : Kind) (ws : List ℕ) (at : ℕ) (b : Body) → body_of kind ws at ≡ Ok b → body_size b ≤ length ws
 body_fits kind ws at b h =

@@ -1,9 +1,10 @@
 //! The reader of an image: it walks over the words in the caller's memory and keeps its position for faults.
 ghost use Rattle.std.specs.Prelude.{◌≡◌, ℕ, ◌+◌, ◌-◌, ◌^◌, ◌<◌, ◌≤◌, Bool, true, false, length, drop, IfOk, nat_lt};
-ghost use Rattle.image.specs.Reading.{place_of, exit_of, time_of, period_of, event_of, target_of, order_of, alternative_of, alternative_in, fresh, message_of, queued_of, flow_of, block_of, alternatives_of, rest_of, cut_of, body_of, body_size, alternatives_size, end_of, node_of, part_size, above, read_image};
+ghost use Rattle.image.specs.Reading.{place_of, exit_of, time_of, period_of, event_of, target_of, order_of, alternative_of, alternative_in, fresh, message_of, queued_of, flow_of, block_of, alternatives_of, rest_of, cut_of, body_of, body_size, end_of, node_of, part_size, above, read_image};
 ghost use Rattle.image.specs.Laws.{Accepts, Refuses, WritesBack};
 
 use crate::places::Image;
+use crate::sizes::size;
 use words::{Alternatives, Body, Exit, Fault, Kind, Node, Order, Word, decode};
 
 /// A node and the place that its head names.
@@ -230,33 +231,6 @@ fn body(kind: Kind, words: &[u32], at: usize) -> Result<Body, Fault>
     }
 }
 
-/// How many words a node has after its head.
-fn size(body: Body) -> usize
-    ensures value { result ≡ body_size body }
-    ensures bound { result ≤ 5 }
-{
-    match body {
-        Body::Message { .. } => 3,
-        Body::Block {
-            alternatives: Alternatives::None,
-            ..
-        } => 2,
-        Body::Block {
-            alternatives: Alternatives::One(_),
-            ..
-        } => 3,
-        Body::Block {
-            alternatives: Alternatives::Two(_, _),
-            ..
-        } => 4,
-        Body::Block {
-            alternatives: Alternatives::Three(_, _, _),
-            ..
-        } => 5,
-        Body::Flow { .. } => 4,
-    }
-}
-
 /// The end word after `count` nodes: nothing may follow it.
 fn end(nodes: u16, count: usize, after: &[u32], at: usize) -> Result<Option<Placed>, Fault>
     requires { at + 1 < 2 ^ 64 }
@@ -316,7 +290,7 @@ fn part_size(part: Option<Placed>) -> usize
     ensures bound { result ≤ 6 }
 {
     match part {
-        Some(placed) => 1 + size(placed.node.body),
+        Some(placed) => size(placed.node),
         None => 1,
     }
 }

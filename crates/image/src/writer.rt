@@ -1,12 +1,13 @@
 //! The writer of an image: all nodes in rising places, and the end word with their number.
-ghost use Rattle.std.specs.Prelude.{◌≡◌, ℕ, ◌+◌, ◌*◌, ◌^◌, ◌<◌, ◌≤◌, length, slice_set};
+ghost use Rattle.std.specs.Prelude.{◌≡◌, ℕ, ◌+◌, ◌*◌, ◌^◌, ◌<◌, ◌≤◌, length, slice_set, sum_by, count_by, is_some};
 ghost use Rattle.words.specs.Format.{written};
-ghost use Rattle.image.specs.Nodes.{kind_of, alternative_words, body_words, live, nodes_words};
+ghost use Rattle.image.specs.Nodes.{kind_of, alternative_words, body_words, nodes_words};
 ghost use Rattle.image.specs.Reading.{body_size, alternatives_size};
-ghost use Rattle.image.specs.Writing.{puts, slot_words, slot_live, write_answer, write_leaves};
+ghost use Rattle.image.specs.Writing.{puts, slot_words, slot_size, write_answer, write_leaves};
 ghost use Rattle.image.specs.Laws.{ReadsBack};
 
 use crate::places::TooShort;
+use crate::sizes::size;
 use words::{Alternatives, Body, Exit, Kind, Node, Word, encode};
 
 /// Writes a word, and tells the position after it.
@@ -112,58 +113,29 @@ fn put_slot(out: &mut [u32], at: usize, place: u16, slot: Option<Node>) -> usize
 
 /// How many words the node of a place has, with its head.
 fn slot_size(slot: Option<Node>) -> usize
-    ensures value { (place : ℕ) → result ≡ length (slot_words place slot) }
+    ensures value { result ≡ slot_size slot }
     ensures bound { result ≤ 6 }
 {
-    match slot {
-        None => 0,
-        Some(node) => match node.body {
-            Body::Message { .. } => 4,
-            Body::Flow { .. } => 5,
-            Body::Block { alternatives, .. } => match alternatives {
-                Alternatives::None => 3,
-                Alternatives::One(_) => 4,
-                Alternatives::Two(_, _) => 5,
-                Alternatives::Three(_, _, _) => 6,
-            },
-        },
-    }
+    slot.map_or(0, size)
 }
 
 /// How many words the nodes of all places have.
+#[tactic(auto, using(crate::proofs::Puts::sizes_short))]
 fn needed(places: &[Option<Node>]) -> usize
     requires { length places.now ≤ 512 }
-    ensures value { result ≡ length (nodes_words 0 places.now) }
+    ensures value { result ≡ sum_by slot_size places.now }
     ensures bound { result ≤ 3072 }
 {
-    let mut count = 0;
-    for slot in places {
-        count += slot_size(*slot);
-    }
-    count
-}
-
-fn slot_live(slot: Option<Node>) -> usize
-    ensures value { result ≡ slot_live slot }
-    ensures bound { result ≤ 1 }
-{
-    match slot {
-        Some(_) => 1,
-        None => 0,
-    }
+    places.iter().map(|slot| slot_size(*slot)).sum()
 }
 
 /// How many places have a node.
 fn live(places: &[Option<Node>]) -> usize
     requires { length places.now ≤ 512 }
-    ensures value { result ≡ live places.now }
+    ensures value { result ≡ count_by is_some places.now }
     ensures bound { result ≤ 512 }
 {
-    let mut count = 0;
-    for slot in places {
-        count += slot_live(*slot);
-    }
-    count
+    places.iter().filter(|slot| slot.is_some()).count()
 }
 
 /// Writes the nodes of all places, each with its head, and tells the position after them.
@@ -180,6 +152,7 @@ fn put_nodes(out: &mut [u32], places: &[Option<Node>]) -> usize
     at
 }
 
+#[tactic(auto, using(crate::proofs::Puts::nodes_long))]
 fn write_image(places: &[Option<Node>], words: &mut [u32]) -> Result<usize, TooShort>
     requires { length places.now ≤ 512 }
     ensures value { result ≡ write_answer places.now (length words.old) }
