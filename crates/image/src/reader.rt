@@ -1,5 +1,5 @@
 //! The reader of an image: it walks over the words in the caller's memory and keeps its position for faults.
-ghost use Rattle.std.specs.Prelude.{◌≡◌, ℕ, ◌+◌, ◌-◌, ◌^◌, ◌<◌, ◌≤◌, Bool, true, false, length, drop, IfOk, nat_lt};
+ghost use Rattle.std.specs.Prelude.{◌≡◌, ℕ, ◌+◌, ◌-◌, ◌^◌, ◌<◌, ◌≤◌, Bool, true, false, length, drop, if◌then◌else◌, is_some, IfOk, IfSome, nat_lt};
 ghost use Rattle.image.specs.Reading.{place_of, exit_of, time_of, period_of, event_of, target_of, order_of, alternative_of, alternative_in, fresh, message_of, queued_of, flow_of, block_of, alternatives_of, rest_of, cut_of, body_of, body_size, end_of, node_of, part_size, above, read_image};
 ghost use Rattle.image.specs.Laws.{Accepts, Refuses, WritesBack};
 
@@ -14,12 +14,18 @@ struct Placed {
     node: Node,
 }
 
-/// Where the reader stands in the words of an image.
+/// Where the reader stands in the words of an image, and what it has passed.
 #[derive(Drop)]
 struct Reader<'a> {
     words: &'a [u32],
     position: usize,
+    // The least place that the next head may name: one above the last.
+    floor: u16,
+    // How many nodes were passed.
+    count: usize,
     ghost inside: { position ≤ length words.now },
+    ghost counted: { count ≤ floor },
+    ghost low: { floor ≤ 512 },
 }
 
 /// The exit that `w` says where a next is wanted.
@@ -284,17 +290,6 @@ fn part(words: &[u32], at: usize, floor: u16, count: usize) -> Result<Option<Pla
     }
 }
 
-/// How many words a node takes, or the end word.
-fn part_size(part: Option<Placed>) -> usize
-    ensures value { result ≡ part_size part }
-    ensures bound { result ≤ 6 }
-{
-    match part {
-        Some(placed) => size(placed.node),
-        None => 1,
-    }
-}
-
 /// The words from a position on.
 fn rest(words: &[u32], at: usize) -> &[u32]
     requires { at ≤ length words.now }
@@ -307,20 +302,33 @@ impl<'a> Reader<'a> {
     fn new(words: &'a [u32]) -> Reader<'a>
         ensures words { result.words.now ≡ words.now }
         ensures position { result.position ≡ 0 }
+        ensures floor { result.floor ≡ 0 }
+        ensures count { result.count ≡ 0 }
     {
-        Reader { words, position: 0 }
+        Reader {
+            words,
+            position: 0,
+            floor: 0,
+            count: 0,
+        }
     }
 
     /// The node here, which is passed, or nothing at the end word.
-    fn node(&mut self, floor: u16, count: usize) -> Result<Option<Placed>, Fault>
-        ensures value { result ≡ node_of (drop self.old.position self.old.words.now) self.old.position floor count }
+    fn node(&mut self) -> Result<Option<Placed>, Fault>
+        ensures value { result ≡ node_of (drop self.old.position self.old.words.now) self.old.position self.old.floor self.old.count }
         ensures same { self.new.words ≡ self.old.words }
-        ensures moved { IfOk result (λ o. self.new.position ≡ self.old.position + part_size o) }
-        ensures placed { IfOk result (above floor) }
+        ensures position { IfOk result (λ o. IfSome o (λ p. self.new.position ≡ self.old.position + part_size (Some p))) }
+        ensures floor { IfOk result (λ o. IfSome o (λ p. self.new.floor ≡ p.place + 1)) }
+        ensures count { IfOk result (λ o. self.new.count ≡ (if is_some o then self.old.count + 1 else self.old.count)) }
+        ensures placed { IfOk result (above self.old.floor) }
     {
         let at = self.position;
-        let part = part(rest(self.words, at), at, floor, count)?;
-        self.position = at + part_size(part);
+        let part = part(rest(self.words, at), at, self.floor, self.count)?;
+        if let Some(placed) = part {
+            self.position = at + size(placed.node);
+            self.floor = placed.place + 1;
+            self.count += 1;
+        }
         Ok(part)
     }
 }
@@ -331,14 +339,13 @@ fn read_nodes(words: &[u32]) -> Result<Image, Fault>
 {
     let mut reader = Reader::new(words);
     let mut places = [None; 512];
-    let mut nodes = 0;
-    let mut floor = 0;
-    while let Some(placed) = reader.node(floor, nodes)? {
+    while let Some(placed) = reader.node()? {
         places[placed.place as usize] = Some(placed.node);
-        nodes += 1;
-        floor = placed.place + 1;
     }
-    Ok(Image { places, nodes })
+    Ok(Image {
+        places,
+        nodes: reader.count,
+    })
 }
 
 /// Reads an image: what it gives for each place, or the first position at which something is wrong.
