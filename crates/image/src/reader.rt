@@ -1,5 +1,5 @@
 //! The reader of an image: it walks over the words in the caller's memory and keeps its position for faults.
-ghost use Rattle.std.specs.Prelude.{◌≡◌, ℕ, ◌+◌, ◌-◌, ◌^◌, ◌<◌, ◌≤◌, Bool, true, false, length, drop, if◌then◌else◌, is_some, IfOk, IfSome, nat_lt};
+ghost use Rattle.std.specs.Prelude.{◌≡◌, ℕ, ◌+◌, ◌-◌, ◌^◌, ◌<◌, ◌≤◌, Bool, true, false, length, drop, if◌then◌else◌, is_some, IfOk, IfSome};
 ghost use Rattle.image.specs.Reading.{place_of, exit_of, time_of, period_of, event_of, target_of, order_of, alternative_of, alternative_in, fresh, message_of, queued_of, flow_of, block_of, alternatives_of, rest_of, cut_of, body_of, body_size, end_of, node_of, part_size, above, read_image};
 ghost use Rattle.image.specs.Laws.{Accepts, Refuses, WritesBack};
 
@@ -237,59 +237,6 @@ fn body(kind: Kind, words: &[u32], at: usize) -> Result<Body, Fault>
     }
 }
 
-/// The end word after `count` nodes: nothing may follow it.
-fn end(nodes: u16, count: usize, after: &[u32], at: usize) -> Result<Option<Placed>, Fault>
-    requires { at + 1 < 2 ^ 64 }
-    ensures { result ≡ end_of (length after.now) at count nodes }
-{
-    if nodes as usize != count {
-        return Err(Fault::Ragged(at));
-    }
-    if after.len() > 0 {
-        return Err(Fault::Ragged(at + 1));
-    }
-    Ok(None)
-}
-
-/// Whether a head's place is not above the last one; `floor` is one above that.
-fn falls(place: u16, floor: u16) -> bool
-    ensures { result ≡ nat_lt place floor }
-{
-    place < floor
-}
-
-/// The node at the front of `words`, whose place is at least `floor`, or nothing at the end word after `count` nodes.
-fn part(words: &[u32], at: usize, floor: u16, count: usize) -> Result<Option<Placed>, Fault>
-    requires { at + length words.now < 2 ^ 64 }
-    ensures value { result ≡ node_of words.now at floor count }
-    ensures within { IfOk result (λ o. part_size o ≤ length words.now) }
-    ensures placed { IfOk result (above floor) }
-{
-    let [first, after @ ..] = words else {
-        return Err(Fault::Ragged(at));
-    };
-    match decode(*first) {
-        Some(
-            Word::Head {
-                kind,
-                pattern,
-                place,
-            },
-        ) => {
-            if falls(place, floor) {
-                return Err(Fault::NotRising(at));
-            }
-            let body = body(kind, after, at + 1)?;
-            Ok(Some(Placed {
-                place,
-                node: Node { pattern, body },
-            }))
-        }
-        Some(Word::End(nodes)) => end(nodes, count, after, at),
-        _ => Err(Fault::BadWord(at)),
-    }
-}
-
 /// The words from a position on.
 fn rest(words: &[u32], at: usize) -> &[u32]
     requires { at ≤ length words.now }
@@ -313,6 +260,52 @@ impl<'a> Reader<'a> {
         }
     }
 
+    /// The end word here, with its number of nodes: nothing may follow it.
+    fn end(&self, nodes: u16, after: &[u32]) -> Result<Option<Placed>, Fault>
+        requires { self.now.position + 1 < 2 ^ 64 }
+        ensures { result ≡ end_of (length after.now) self.now.position self.now.count nodes }
+    {
+        if nodes as usize != self.count {
+            return Err(Fault::Ragged(self.position));
+        }
+        if after.len() > 0 {
+            return Err(Fault::Ragged(self.position + 1));
+        }
+        Ok(None)
+    }
+
+    /// The node here, or nothing at the end word.
+    fn part(&self) -> Result<Option<Placed>, Fault>
+        ensures value { result ≡ node_of (drop self.now.position self.now.words.now) self.now.position self.now.floor self.now.count }
+        ensures within { IfOk result (λ o. self.now.position + part_size o ≤ length self.now.words.now) }
+        ensures placed { IfOk result (above self.now.floor) }
+    {
+        let at = self.position;
+        let [first, after @ ..] = rest(self.words, at) else {
+            return Err(Fault::Ragged(at));
+        };
+        match decode(*first) {
+            Some(
+                Word::Head {
+                    kind,
+                    pattern,
+                    place,
+                },
+            ) => {
+                if place < self.floor {
+                    return Err(Fault::NotRising(at));
+                }
+                let body = body(kind, after, at + 1)?;
+                Ok(Some(Placed {
+                    place,
+                    node: Node { pattern, body },
+                }))
+            }
+            Some(Word::End(nodes)) => self.end(nodes, after),
+            _ => Err(Fault::BadWord(at)),
+        }
+    }
+
     /// The node here, which is passed, or nothing at the end word.
     fn node(&mut self) -> Result<Option<Placed>, Fault>
         ensures value { result ≡ node_of (drop self.old.position self.old.words.now) self.old.position self.old.floor self.old.count }
@@ -322,10 +315,9 @@ impl<'a> Reader<'a> {
         ensures count { IfOk result (λ o. self.new.count ≡ (if is_some o then self.old.count + 1 else self.old.count)) }
         ensures placed { IfOk result (above self.old.floor) }
     {
-        let at = self.position;
-        let part = part(rest(self.words, at), at, self.floor, self.count)?;
+        let part = self.part()?;
         if let Some(placed) = part {
-            self.position = at + size(placed.node);
+            self.position += size(placed.node);
             self.floor = placed.place + 1;
             self.count += 1;
         }
