@@ -1,6 +1,6 @@
 use Rattle.std.proofs.Common.{◌≡◌, ◌+◌, ◌-◌, drop, Some, None, Ok, sym, refl, ap, ◌∙◌, arith, length-set}
 use Rattle.std.proofs.lemmas.Result.{err_from_is_err_and}
-use Rattle.image.specs.Reading.{read_image, node_of, part_size, above}
+use Rattle.image.specs.Reading.{read_image, node_of, part_size}
 use Rattle.image.proofs.Loop.{one_more, all, refused}
 use Rattle.image.proofs.reader.read_nodes.Goals as goal
 

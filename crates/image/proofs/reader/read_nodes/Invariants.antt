@@ -1,4 +1,4 @@
-use Rattle.std.proofs.Common.{◌≡◌, ◌-◌, ◌≤◌, length}
+use Rattle.std.proofs.Common.{◌≡◌, ◌-◌, length}
 use Rattle.image.specs.Reading.{nodes_from, read_image}
 use Rattle.image.proofs.reader.read_nodes.Given as goal
 
