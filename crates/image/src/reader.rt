@@ -1,5 +1,7 @@
 //! The reader of an image: it walks over the words in the caller's memory and keeps its position for faults.
 ghost use Rattle.std.specs.Prelude.{◌≡◌, ℕ, ◌+◌, ◌-◌, ◌^◌, ◌<◌, ◌≤◌, Bool, true, false, length, drop, if◌then◌else◌, is_some, IfOk, IfSome};
+ghost use Rattle.std.specs.List.{list_any};
+ghost use Rattle.words.specs.Exits.{same};
 ghost use Rattle.image.specs.Reading.{place_of, exit_of, time_of, period_of, event_of, target_of, order_of, alternative_of, alternative_in, fresh, message_of, queued_of, flow_of, block_of, alternatives_of, rest_of, cut_of, body_of, body_size, end_of, node_of, part_size, above, read_image};
 ghost use Rattle.image.specs.Laws.{Accepts, Refuses, WritesBack};
 
@@ -105,20 +107,25 @@ fn alternative_of(w: u32) -> Option<Exit>
     }
 }
 
-/// The alternative that is word `i` of `words`, if there is one; it must be none of three exits.
-fn fresh(
-    words: &[u32],
-    i: usize,
-    known: (Exit, Exit, Exit),
-    at: usize,
-) -> Result<Option<Exit>, Fault>
-    ensures { result ≡ fresh known.0 known.1 known.2 at (alternative_in words.now i) }
+/// The alternative that is word `i` of `words`, if there is one.
+fn alternative_in(words: &[u32], i: usize) -> Option<Exit>
+    ensures { result ≡ alternative_in words.now i }
 {
-    if i >= words.len() {
-        return Ok(None);
-    }
-    match alternative_of(words[i]) {
-        Some(x) if x.is(known.0) || x.is(known.1) || x.is(known.2) => Err(Fault::BadWord(at)),
+    words.get(i).and_then(|word| alternative_of(*word))
+}
+
+fn is_known(exit: Exit, known: &[Exit]) -> bool
+    ensures { result ≡ list_any (λ other. same exit other) known.now }
+{
+    known.iter().any(|other| exit.is(*other))
+}
+
+/// The same, which must be none of the known exits.
+fn fresh(words: &[u32], i: usize, known: &[Exit], at: usize) -> Result<Option<Exit>, Fault>
+    ensures { result ≡ fresh known.now at (alternative_in words.now i) }
+{
+    match alternative_in(words, i) {
+        Some(x) if is_known(x, known) => Err(Fault::BadWord(at)),
         found => Ok(found),
     }
 }
@@ -128,13 +135,13 @@ fn alternatives(words: &[u32], at: usize, next: Exit) -> Result<Alternatives, Fa
     requires { at + length words.now < 2 ^ 64 }
     ensures { result ≡ alternatives_of words.now at next }
 {
-    let Some(x) = fresh(words, 0, (next, next, next), at)? else {
+    let Some(x) = fresh(words, 0, &[next], at)? else {
         return Ok(Alternatives::None);
     };
-    let Some(y) = fresh(words, 1, (next, x, x), at + 1)? else {
+    let Some(y) = fresh(words, 1, &[next, x], at + 1)? else {
         return Ok(Alternatives::One(x));
     };
-    match fresh(words, 2, (next, x, y), at + 1 + 1)? {
+    match fresh(words, 2, &[next, x, y], at + 1 + 1)? {
         None => Ok(Alternatives::Two(x, y)),
         Some(z) => Ok(Alternatives::Three(x, y, z)),
     }
