@@ -1,7 +1,5 @@
 //! The reader of an image: it walks over the words in the caller's memory and keeps its position for faults.
 ghost use Rattle.std.specs.Prelude.{◌≡◌, ℕ, ◌+◌, ◌-◌, ◌^◌, ◌<◌, ◌≤◌, Bool, true, false, length, drop, if◌then◌else◌, is_some, IfOk, IfSome};
-ghost use Rattle.std.specs.List.{list_any};
-ghost use Rattle.words.specs.Exits.{same};
 ghost use Rattle.image.specs.Reading.{place_of, exit_of, time_of, period_of, event_of, target_of, order_of, alternative_of, alternative_in, fresh, message_of, queued_of, flow_of, block_of, alternatives_of, rest_of, cut_of, body_of, body_size, end_of, node_of, part_size, above, read_image};
 ghost use Rattle.image.specs.Laws.{Accepts, Refuses, WritesBack};
 
@@ -114,18 +112,12 @@ fn alternative_in(words: &[u32], i: usize) -> Option<Exit>
     words.get(i).and_then(|word| alternative_of(*word))
 }
 
-fn is_known(exit: Exit, known: &[Exit]) -> bool
-    ensures { result ≡ list_any (λ other. same exit other) known.now }
-{
-    known.iter().any(|other| exit.is(*other))
-}
-
 /// The same, which must be none of the known exits.
 fn fresh(words: &[u32], i: usize, known: &[Exit], at: usize) -> Result<Option<Exit>, Fault>
     ensures { result ≡ fresh known.now at (alternative_in words.now i) }
 {
     match alternative_in(words, i) {
-        Some(x) if is_known(x, known) => Err(Fault::BadWord(at)),
+        Some(x) if known.contains(&x) => Err(Fault::BadWord(at)),
         found => Ok(found),
     }
 }
