@@ -221,6 +221,7 @@ fn cut(kind: Kind, next: u32, at: usize) -> Result<Body, Fault>
 }
 
 /// The words after a head: the next, the time and the rest, which the kind decides.
+#[tactic(auto, using(std::proofs::lemmas::List::take_rest))]
 fn body(kind: Kind, words: &[u32], at: usize) -> Result<Body, Fault>
     requires { at + length words.now < 2 ^ 64 }
     ensures { result ≡ body_of kind words.now at }
@@ -237,6 +238,7 @@ fn body(kind: Kind, words: &[u32], at: usize) -> Result<Body, Fault>
 }
 
 /// The words from a position on.
+#[tactic(auto, using(std::proofs::lemmas::List::take_rest))]
 fn rest(words: &[u32], at: usize) -> &[u32]
     requires { at ≤ length words.now }
     ensures { result.now ≡ drop at words.now }
