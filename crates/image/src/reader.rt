@@ -237,15 +237,6 @@ fn body(kind: Kind, words: &[u32], at: usize) -> Result<Body, Fault>
     }
 }
 
-/// The words from a position on.
-#[tactic(auto, using(std::proofs::lemmas::List::take_rest))]
-fn rest(words: &[u32], at: usize) -> &[u32]
-    requires { at ≤ length words.now }
-    ensures { result.now ≡ drop at words.now }
-{
-    &words[at..]
-}
-
 impl<'a> Reader<'a> {
     fn new(words: &'a [u32]) -> Reader<'a>
         ensures words { result.words.now ≡ words.now }
@@ -276,13 +267,14 @@ impl<'a> Reader<'a> {
     }
 
     /// The node here, or nothing at the end word.
+    #[tactic(auto, using(std::proofs::lemmas::List::take_rest))]
     fn part(&self) -> Result<Option<Placed>, Fault>
         ensures value { result ≡ node_of (drop self.now.position self.now.words.now) self.now.position self.now.floor self.now.count }
         ensures within { IfOk result (λ o. self.now.position + part_size o ≤ length self.now.words.now) }
         ensures placed { IfOk result (above self.now.floor) }
     {
         let at = self.position;
-        let [first, after @ ..] = rest(self.words, at) else {
+        let [first, after @ ..] = &self.words[at..] else {
             return Err(Fault::Ragged(at));
         };
         match decode(*first) {
