@@ -319,6 +319,7 @@ impl<'a> Reader<'a> {
 }
 
 /// The nodes of an image, each at its place.
+#[tactic(auto, unfolding(crate::specs::Reading::read_image))]
 fn read_nodes(words: &[u32]) -> Result<Image, Fault>
     ensures { result ≡ read_image words.now }
 {
