@@ -1,7 +1,8 @@
 -- The words after a head, read one after another.
-use Rattle.std.proofs.Common.{◌≡◌, ℕ, suc, ◌+◌, ◌<◌, ◌≤◌, Bool, true, false, cond, ◌||◌, List, [], ◌∷◌, length, get_or, drop, Some, None, Ok, Err, Option, Result, sym, refl, ap, ◌∙◌, ⊎_elim, arith}
+use Rattle.std.proofs.Common.{◌≡◌, ℕ, suc, ◌+◌, ◌<◌, ◌≤◌, Bool, true, false, cond, List, [], ◌∷◌, length, get_or, drop, Some, None, Ok, Err, Option, Result, sym, refl, ap, ◌∙◌, ⊎_elim, arith}
 use Rattle.std.proofs.lemmas.Bool.{cond_below, cond_above, cases_lt}
 use Rattle.std.specs.Option.{ok_or}
+use Rattle.std.specs.List.{list_any}
 use Rattle.words.specs.declared.fault.Fault.{Fault}
 use Rattle.words.specs.declared.fault.Fault.TheVariants.{BadWord, Ragged}
 use Rattle.words.specs.declared.node.Exit.{Exit}
@@ -38,17 +39,17 @@ flow_offset n = wants time_of (target_wanted n)
 abbrev pub flow : List ℕ → ℕ → Result Body Fault
 flow = wants place_of flow_offset
 
-abbrev pub used : Exit → Exit → Exit → Exit → Bool
-used a b c x = same x a || (same x b || same x c)
+abbrev pub used : List Exit → Exit → Bool
+used known x = list_any (λ other. same x other) known
 
 abbrev pub third : Exit → ℕ → Exit → Exit → List ℕ → ℕ → Result Body Fault
-third n t x y = may alternative_of (used n x y) (λ z ws at. Ok (body.Block n t (ways.Three x y z))) (body.Block n t (ways.Two x y))
+third n t x y = may alternative_of (used (n ∷ x ∷ y ∷ [])) (λ z ws at. Ok (body.Block n t (ways.Three x y z))) (body.Block n t (ways.Two x y))
 
 abbrev pub second : Exit → ℕ → Exit → List ℕ → ℕ → Result Body Fault
-second n t x = may alternative_of (used n x x) (λ y. third n t x y) (body.Block n t (ways.One x))
+second n t x = may alternative_of (used (n ∷ x ∷ [])) (λ y. third n t x y) (body.Block n t (ways.One x))
 
 abbrev pub first : Exit → ℕ → List ℕ → ℕ → Result Body Fault
-first n t = may alternative_of (used n n n) (λ x. second n t x) (body.Block n t ways.None)
+first n t = may alternative_of (used (n ∷ [])) (λ x. second n t x) (body.Block n t ways.None)
 
 abbrev pub period_wanted : Exit → List ℕ → ℕ → Result Body Fault
 period_wanted n = wants period_of (first n)
@@ -77,9 +78,9 @@ flow_good =
 block_good : Good body_size 0 block
 block_good =
     wants_good body_size 0 exit_of _ 0x20000000 (exit.Place 0) refl (λ n. wants_good body_size 1 period_of _ 0x30000001 1 refl (λ t.
-    may_good body_size 2 alternative_of (used n n n) _ (body.Block n t ways.None) refl (λ x.
-    may_good body_size 3 alternative_of (used n x x) _ (body.Block n t (ways.One x)) refl (λ y.
-    may_good body_size 4 alternative_of (used n x y) _ (body.Block n t (ways.Two x y)) refl (λ z.
+    may_good body_size 2 alternative_of (used (n ∷ [])) _ (body.Block n t ways.None) refl (λ x.
+    may_good body_size 3 alternative_of (used (n ∷ x ∷ [])) _ (body.Block n t (ways.One x)) refl (λ y.
+    may_good body_size 4 alternative_of (used (n ∷ x ∷ y ∷ [])) _ (body.Block n t (ways.Two x y)) refl (λ z.
     done_good body_size 5 (body.Block n t (ways.Three x y z)) refl)))))
 
 pub reader_good : (kind : Kind) → Good body_size 0 (reader kind)
@@ -149,11 +150,11 @@ alternative_shifted w ws i = ⊎_elim
 abbrev go : {B : Type 0} → Result (Option Exit) Fault → B → (Exit → Result B Fault) → Result B Fault
 go r y K = then r (λ o. elim o [ None ↦ Ok y | Some x ↦ K x ])
 
-fresh_link : {B : Type 0} (a b c : Exit) (at : ℕ) (y : B) (K : Exit → Result B Fault) (k : Exit → List ℕ → ℕ → Result B Fault) (ws : List ℕ) (o : Option Exit)
-    → ((x : Exit) → K x ≡ k x ws (at + 1)) → go (fresh a b c at o) y K ≡ goes_or o (used a b c) k y ws at
-fresh_link a b c at y K k ws None h = refl
-fresh_link a b c at y K k ws (Some x) h =
-    elim (used a b c x) as (λ u. go (cond u (Err (BadWord at)) (Ok (Some x))) y K ≡ goes_if u (k x) ws at) [ true ↦ refl | false ↦ h x ]
+fresh_link : {B : Type 0} (known : List Exit) (at : ℕ) (y : B) (K : Exit → Result B Fault) (k : Exit → List ℕ → ℕ → Result B Fault) (ws : List ℕ) (o : Option Exit)
+    → ((x : Exit) → K x ≡ k x ws (at + 1)) → go (fresh known at o) y K ≡ goes_or o (used known) k y ws at
+fresh_link known at y K k ws None h = refl
+fresh_link known at y K k ws (Some x) h =
+    elim (used known x) as (λ u. go (cond u (Err (BadWord at)) (Ok (Some x))) y K ≡ goes_if u (k x) ws at) [ true ↦ refl | false ↦ h x ]
 
 abbrev as_block : Exit → ℕ → Result Alternatives Fault → Result Body Fault
 as_block n t r = then r (λ a. Ok (body.Block n t a))
@@ -167,23 +168,23 @@ pushed n t (Ok (Some x)) y K = refl
 third_link : (n : Exit) (t : ℕ) (x y : Exit) (v w : ℕ) (ws : List ℕ) (at : ℕ) → as_block n t (third_of (v ∷ w ∷ ws) at n x y) ≡ third n t x y ws at
 third_link n t x y v w [] at = refl
 third_link n t x y v w (u ∷ ws) at =
-    ap (λ o. as_block n t (go (fresh n x y at o) (ways.Two x y) (λ z. Ok (ways.Three x y z)))) (alternative_shifted v (w ∷ u ∷ ws) 1 ∙ alternative_shifted w (u ∷ ws) 0 ∙ alternative_there (u ∷ ws) 0 (omega arith))
-    ∙ pushed n t (fresh n x y at (alternative_of u)) (ways.Two x y) (λ z. Ok (ways.Three x y z))
-    ∙ fresh_link n x y at (body.Block n t (ways.Two x y)) (λ z. Ok (body.Block n t (ways.Three x y z))) (λ z vs at. Ok (body.Block n t (ways.Three x y z))) ws (alternative_of u) (λ z. refl)
+    ap (λ o. as_block n t (go (fresh (n ∷ x ∷ y ∷ []) at o) (ways.Two x y) (λ z. Ok (ways.Three x y z)))) (alternative_shifted v (w ∷ u ∷ ws) 1 ∙ alternative_shifted w (u ∷ ws) 0 ∙ alternative_there (u ∷ ws) 0 (omega arith))
+    ∙ pushed n t (fresh (n ∷ x ∷ y ∷ []) at (alternative_of u)) (ways.Two x y) (λ z. Ok (ways.Three x y z))
+    ∙ fresh_link (n ∷ x ∷ y ∷ []) at (body.Block n t (ways.Two x y)) (λ z. Ok (body.Block n t (ways.Three x y z))) (λ z vs at. Ok (body.Block n t (ways.Three x y z))) ws (alternative_of u) (λ z. refl)
 
 second_link : (n : Exit) (t : ℕ) (x : Exit) (v : ℕ) (ws : List ℕ) (at : ℕ) → as_block n t (second_of (v ∷ ws) at n x) ≡ second n t x ws at
 second_link n t x v [] at = refl
 second_link n t x v (w ∷ ws) at =
-    ap (λ o. as_block n t (go (fresh n x x at o) (ways.One x) (λ y. third_of (v ∷ w ∷ ws) (at + 1) n x y))) (alternative_shifted v (w ∷ ws) 0 ∙ alternative_there (w ∷ ws) 0 (omega arith))
-    ∙ pushed n t (fresh n x x at (alternative_of w)) (ways.One x) (λ y. third_of (v ∷ w ∷ ws) (at + 1) n x y)
-    ∙ fresh_link n x x at (body.Block n t (ways.One x)) (λ y. as_block n t (third_of (v ∷ w ∷ ws) (at + 1) n x y)) (λ y. third n t x y) ws (alternative_of w) (λ y. third_link n t x y v w ws (at + 1))
+    ap (λ o. as_block n t (go (fresh (n ∷ x ∷ []) at o) (ways.One x) (λ y. third_of (v ∷ w ∷ ws) (at + 1) n x y))) (alternative_shifted v (w ∷ ws) 0 ∙ alternative_there (w ∷ ws) 0 (omega arith))
+    ∙ pushed n t (fresh (n ∷ x ∷ []) at (alternative_of w)) (ways.One x) (λ y. third_of (v ∷ w ∷ ws) (at + 1) n x y)
+    ∙ fresh_link (n ∷ x ∷ []) at (body.Block n t (ways.One x)) (λ y. as_block n t (third_of (v ∷ w ∷ ws) (at + 1) n x y)) (λ y. third n t x y) ws (alternative_of w) (λ y. third_link n t x y v w ws (at + 1))
 
 first_link : (n : Exit) (t : ℕ) (ws : List ℕ) (at : ℕ) → as_block n t (alternatives_of ws at n) ≡ first n t ws at
 first_link n t [] at = refl
 first_link n t (w ∷ ws) at =
-    ap (λ o. as_block n t (go (fresh n n n at o) ways.None (λ x. second_of (w ∷ ws) (at + 1) n x))) (alternative_there (w ∷ ws) 0 (omega arith))
-    ∙ pushed n t (fresh n n n at (alternative_of w)) ways.None (λ x. second_of (w ∷ ws) (at + 1) n x)
-    ∙ fresh_link n n n at (body.Block n t ways.None) (λ x. as_block n t (second_of (w ∷ ws) (at + 1) n x)) (λ x. second n t x) ws (alternative_of w) (λ x. second_link n t x w ws (at + 1))
+    ap (λ o. as_block n t (go (fresh (n ∷ []) at o) ways.None (λ x. second_of (w ∷ ws) (at + 1) n x))) (alternative_there (w ∷ ws) 0 (omega arith))
+    ∙ pushed n t (fresh (n ∷ []) at (alternative_of w)) ways.None (λ x. second_of (w ∷ ws) (at + 1) n x)
+    ∙ fresh_link (n ∷ []) at (body.Block n t ways.None) (λ x. as_block n t (second_of (w ∷ ws) (at + 1) n x)) (λ x. second n t x) ws (alternative_of w) (λ x. second_link n t x w ws (at + 1))
 
 rest_link : (kind : Kind) (n t : ℕ) (ws : List ℕ) (at : ℕ) → rest_of kind n t ws at ≡ reader kind (n ∷ t ∷ ws) at
 rest_link kinds.Message n t ws at =

@@ -1,11 +1,14 @@
 -- Words that are put one after another, and the words of the places that are left.
-use Rattle.std.proofs.Common.{◌≡◌, ℕ, ◌+◌, ◌<◌, ◌≤◌, List, [], ◌∷◌, ◌++◌, length, get_or, take, drop, set, Some, None, Option, sym, refl, ap, ◌∙◌, append_assoc, add-zero, zero-add, arith, length-append, length-set, take-append-drop}
+use Rattle.std.proofs.Common.{◌≡◌, ℕ, ◌+◌, ◌*◌, ◌<◌, ◌≤◌, List, [], ◌∷◌, ◌++◌, length, get_or, take, drop, set, sum_by, count_by, is_some, cond, Some, None, Option, sym, refl, ap, ◌∙◌, append_assoc, add-zero, zero-add, arith, length-append, length-set, take-append-drop}
 use Rattle.std.proofs.lemmas.List.{at_drop_more, take_more_set, drop-set-lt}
+use Rattle.std.proofs.lemmas.List.Sums.{sum_by-cons}
+use Rattle.std.proofs.lemmas.List.Recursion.{is_count_by}
 use Rattle.words.specs.declared.node.Node.{Node}
 use Rattle.words.specs.declared.word.Word.TheVariants.{End}
 use Rattle.words.specs.Format.{written}
-use Rattle.image.specs.Nodes.{nodes_words, live, image_words}
-use Rattle.image.specs.Writing.{puts, slot_words, slot_live}
+use Rattle.image.specs.Nodes.{node_words, nodes_words, live, image_words}
+use Rattle.image.specs.Writing.{puts, slot_words, slot_size}
+use Rattle.image.proofs.Whole.{body_long, body_short}
 
 pub puts_append : (out : List ℕ) (at : ℕ) (xs ys : List ℕ) → puts out at (xs ++ ys) ≡ puts (puts out at xs) (at + length xs) ys
 puts_append out at [] ys = ap (λ i. puts out i ys) (sym (add-zero at))
@@ -33,14 +36,7 @@ words_first : (place : ℕ) (slot : Option Node) (rest : List (Option Node)) →
 words_first place None rest = refl
 words_first place (Some node) rest = refl
 
-live_first : (slot : Option Node) (rest : List (Option Node)) → live (slot ∷ rest) ≡ slot_live slot + live rest
-live_first None rest = omega arith
-live_first (Some node) rest = refl
-
 module _ (places : List (Option Node)) (i : ℕ) (h : i < length places) where
-  pub live_more : live (drop i places) ≡ slot_live (get_or places i None) + live (drop (i + 1) places)
-  live_more = at_drop_more live places i None h ∙ live_first (get_or places i None) (drop (i + 1) places)
-
   pub words_more : nodes_words i (drop i places) ≡ slot_words i (get_or places i None) ++ nodes_words (i + 1) (drop (i + 1) places)
   words_more = at_drop_more (nodes_words i) places i None h ∙ words_first i (get_or places i None) (drop (i + 1) places)
 
@@ -50,6 +46,29 @@ module _ (places : List (Option Node)) (i : ℕ) (h : i < length places) where
   pub puts_more : (out : List ℕ) (at : ℕ) → puts out at (nodes_words i (drop i places))
       ≡ puts (puts out at (slot_words i (get_or places i None))) (at + length (slot_words i (get_or places i None))) (nodes_words (i + 1) (drop (i + 1) places))
   puts_more out at = ap (puts out at) words_more ∙ puts_append out at (slot_words i (get_or places i None)) _
+
+-- ### how many words and nodes there are
+
+pub slot_long : (place : ℕ) (slot : Option Node) → length (slot_words place slot) ≡ slot_size slot
+slot_long place None = refl
+slot_long place (Some node) = omega (arith, body_long node.body)
+
+pub nodes_long : (place : ℕ) (places : List (Option Node)) → length (nodes_words place places) ≡ sum_by slot_size places
+nodes_long place [] = refl
+nodes_long place (None ∷ places) = omega (arith, nodes_long (place + 1) places, sum_by-cons slot_size None places)
+nodes_long place (Some node ∷ places) =
+    omega (arith, length-append (node_words place node) (nodes_words (place + 1) places), slot_long place (Some node), nodes_long (place + 1) places, sum_by-cons slot_size (Some node) places)
+
+slot_short : (slot : Option Node) → slot_size slot ≤ 6
+slot_short None = omega arith
+slot_short (Some node) = let body = body_short node.body in omega arith
+
+pub sizes_short : (places : List (Option Node)) → sum_by slot_size places ≤ length places * 6
+sizes_short [] = omega arith
+sizes_short (slot ∷ places) = omega (arith, slot_short slot, sizes_short places, sum_by-cons slot_size slot places)
+
+pub live_counted : (places : List (Option Node)) → live places ≡ count_by is_some places
+live_counted = is_count_by live is_some refl (λ slot rest. elim slot as (λ s. live (s ∷ rest) ≡ cond (is_some s) (1 + live rest) (live rest)) [ None ↦ refl | Some node ↦ refl ])
 
 -- ### the whole image
 

@@ -1,6 +1,7 @@
 -- The words after a head are read exactly as what they are written from.
 use Rattle.std.proofs.Common.{◌≡◌, ℕ, ◌+◌, ◌≤◌, false, List, [], ◌∷◌, ◌++◌, length, Ok, sym, refl, ap, ◌∙◌, subst, ⊎_elim, arith, length-append}
 use Rattle.std.proofs.lemmas.Bool.{or_parts, or_from}
+use Rattle.std.specs.List.{AllByRecursion}
 use Rattle.words.specs.declared.node.Exit.{Exit}
 use Rattle.words.specs.declared.node.Exit.TheVariants as exit
 use Rattle.words.specs.declared.node.Alternatives.{Alternatives}
@@ -55,11 +56,9 @@ flow_read ws at b h =
     let a = n.0 in let b = t.0 in let c = g.0 in let d = o.0 in
     subst (Read kinds.Flow ws) is (record { rest = s.1; words = cc; allowed = (n.1, t.1, g.1, o.1); sort = refl })
 
-unused : (a b c x : Exit) → used a b c x ≡ false → Differ x a × Differ x b × Differ x c
-unused a b c x h =
-    let p = or_parts (same x a) _ h in
-    let q = or_parts (same x b) (same x c) p.1 in
-    (same_false x a p.0, same_false x b q.0, same_false x c q.1)
+unused : (known : List Exit) (x : Exit) → used known x ≡ false → AllByRecursion (Differ x) known
+unused [] x h = tt
+unused (other ∷ known) x h = let p = or_parts (same x other) _ h in (same_false x other p.0, unused known x p.1)
 
 -- the alternatives at the front of ws, after those that were read before
 module _ (n : Exit) (t : ℕ) where
@@ -70,10 +69,10 @@ module _ (n : Exit) (t : ℕ) where
       (λ is. (ways.Two x y, [], ws, is, refl, refl, λ p q. (p, q)))
       (λ r.
       let z = alternative_is r.0 r.2 r.4 in
-      let u = unused n x y r.2 r.5 in
+      let u = unused (n ∷ x ∷ y ∷ []) r.2 r.5 in
       let three = r.3 in let c = z.0 in
-      (ways.Three x y r.2, written (word.Alternative r.2) ∷ [], r.1, cc r.6, cc, refl, λ p q. (p, q, (z.1, u.0, u.1, u.2))))
-      (may_ok alternative_of (used n x y) _ (body.Block n t (ways.Two x y)) ws at b h)
+      (ways.Three x y r.2, written (word.Alternative r.2) ∷ [], r.1, cc r.6, cc, refl, λ p q. (p, q, (z.1, u.0, u.1.0, u.1.1.0))))
+      (may_ok alternative_of (used (n ∷ x ∷ y ∷ [])) _ (body.Block n t (ways.Two x y)) ws at b h)
 
   second_read : (x : Exit) (ws : List ℕ) (at : ℕ) (b : Body) → second n t x ws at ≡ Ok b → (a : Alternatives) × (vs rest : List ℕ) × (body.Block n t a ≡ b) × (ws ≡ vs ++ rest)
       × (alternative_words a ≡ written (word.Alternative x) ∷ vs)
@@ -82,11 +81,11 @@ module _ (n : Exit) (t : ℕ) where
       (λ is. (ways.One x, [], ws, is, refl, refl, λ p. p))
       (λ r.
       let y = alternative_is r.0 r.2 r.4 in
-      let u = unused n x x r.2 r.5 in
+      let u = unused (n ∷ x ∷ []) r.2 r.5 in
       let more = third_read x r.2 r.1 (at + 1) b r.6 in
       let two = r.3 in let c = y.0 in let then = more.4 in let is = more.5 in
-      (more.0, written (word.Alternative r.2) ∷ more.1, more.2, more.3, cc, is, λ p. more.6 p (y.1, u.0, u.1)))
-      (may_ok alternative_of (used n x x) _ (body.Block n t (ways.One x)) ws at b h)
+      (more.0, written (word.Alternative r.2) ∷ more.1, more.2, more.3, cc, is, λ p. more.6 p (y.1, u.0, u.1.0)))
+      (may_ok alternative_of (used (n ∷ x ∷ [])) _ (body.Block n t (ways.One x)) ws at b h)
 
   first_read : (ws : List ℕ) (at : ℕ) (b : Body) → first n t ws at ≡ Ok b
       → (a : Alternatives) × (rest : List ℕ) × (body.Block n t a ≡ b) × (ws ≡ alternative_words a ++ rest) × AllowedAlternatives n a
@@ -94,11 +93,11 @@ module _ (n : Exit) (t : ℕ) where
       (λ is. (ways.None, ws, is, refl, tt))
       (λ r.
       let x = alternative_is r.0 r.2 r.4 in
-      let u = unused n n n r.2 r.5 in
+      let u = unused (n ∷ []) r.2 r.5 in
       let more = second_read r.2 r.1 (at + 1) b r.6 in
       let one = r.3 in let c = x.0 in let then = more.4 in let is = more.5 in
       (more.0, more.2, more.3, cc, more.6 (x.1, u.0)))
-      (may_ok alternative_of (used n n n) _ (body.Block n t ways.None) ws at b h)
+      (may_ok alternative_of (used (n ∷ [])) _ (body.Block n t ways.None) ws at b h)
 
 block_read : (ws : List ℕ) (at : ℕ) (b : Body) → block ws at ≡ Ok b → Read kinds.Block ws b
 block_read ws at b h =
@@ -121,23 +120,24 @@ body_read kind ws at b h = reader_read kind ws at b (sym (body_link kind ws at) 
 
 -- ### what is written is read
 
-unlike : (a b c x : Exit) → Differ x a → Differ x b → Differ x c → used a b c x ≡ false
-unlike a b c x p q r = or_from (same x a) _ (differ_same x a p) (or_from (same x b) (same x c) (differ_same x b q) (differ_same x c r))
+unlike : (known : List Exit) (x : Exit) → AllByRecursion (Differ x) known → used known x ≡ false
+unlike [] x h = refl
+unlike (other ∷ known) x h = or_from (same x other) _ (differ_same x other h.0) (unlike known x h.1)
 
 module _ (n : Exit) (t : ℕ) (rest : List ℕ) (at : ℕ) (closed : Closed alternative_of rest) where
   first_back : (a : Alternatives) → AllowedAlternatives n a → first n t (alternative_words a ++ rest) at ≡ Ok (body.Block n t a)
-  first_back ways.None h = may_none alternative_of (used n n n) _ (body.Block n t ways.None) rest at closed
+  first_back ways.None h = may_none alternative_of (used (n ∷ [])) _ (body.Block n t ways.None) rest at closed
   first_back (ways.One x) h =
-      may_some alternative_of (used n n n) _ _ (written (word.Alternative x)) rest at x (alternative_back x h.0) (unlike n n n x h.1 h.1 h.1)
-      ∙ may_none alternative_of (used n x x) _ (body.Block n t (ways.One x)) rest (at + 1) closed
+      may_some alternative_of (used (n ∷ [])) _ _ (written (word.Alternative x)) rest at x (alternative_back x h.0) (unlike (n ∷ []) x (h.1, tt))
+      ∙ may_none alternative_of (used (n ∷ x ∷ [])) _ (body.Block n t (ways.One x)) rest (at + 1) closed
   first_back (ways.Two x y) h =
-      may_some alternative_of (used n n n) _ _ (written (word.Alternative x)) _ at x (alternative_back x h.0.0) (unlike n n n x h.0.1 h.0.1 h.0.1)
-      ∙ may_some alternative_of (used n x x) _ _ (written (word.Alternative y)) rest (at + 1) y (alternative_back y h.1.0) (unlike n x x y h.1.1 h.1.2 h.1.2)
-      ∙ may_none alternative_of (used n x y) _ (body.Block n t (ways.Two x y)) rest (at + 1 + 1) closed
+      may_some alternative_of (used (n ∷ [])) _ _ (written (word.Alternative x)) _ at x (alternative_back x h.0.0) (unlike (n ∷ []) x (h.0.1, tt))
+      ∙ may_some alternative_of (used (n ∷ x ∷ [])) _ _ (written (word.Alternative y)) rest (at + 1) y (alternative_back y h.1.0) (unlike (n ∷ x ∷ []) y (h.1.1, (h.1.2, tt)))
+      ∙ may_none alternative_of (used (n ∷ x ∷ y ∷ [])) _ (body.Block n t (ways.Two x y)) rest (at + 1 + 1) closed
   first_back (ways.Three x y z) h =
-      may_some alternative_of (used n n n) _ _ (written (word.Alternative x)) _ at x (alternative_back x h.0.0) (unlike n n n x h.0.1 h.0.1 h.0.1)
-      ∙ may_some alternative_of (used n x x) _ _ (written (word.Alternative y)) _ (at + 1) y (alternative_back y h.1.0) (unlike n x x y h.1.1 h.1.2 h.1.2)
-      ∙ may_some alternative_of (used n x y) _ (body.Block n t (ways.Two x y)) (written (word.Alternative z)) rest (at + 1 + 1) z (alternative_back z h.2.0) (unlike n x y z h.2.1 h.2.2 h.2.3)
+      may_some alternative_of (used (n ∷ [])) _ _ (written (word.Alternative x)) _ at x (alternative_back x h.0.0) (unlike (n ∷ []) x (h.0.1, tt))
+      ∙ may_some alternative_of (used (n ∷ x ∷ [])) _ _ (written (word.Alternative y)) _ (at + 1) y (alternative_back y h.1.0) (unlike (n ∷ x ∷ []) y (h.1.1, (h.1.2, tt)))
+      ∙ may_some alternative_of (used (n ∷ x ∷ y ∷ [])) _ (body.Block n t (ways.Two x y)) (written (word.Alternative z)) rest (at + 1 + 1) z (alternative_back z h.2.0) (unlike (n ∷ x ∷ y ∷ []) z (h.2.1, (h.2.2, (h.2.3, tt))))
 
 reader_back : (b : Body) (rest : List ℕ) (at : ℕ) → AllowedBody b → Closed alternative_of rest → reader (kind_of b) (body_words b ++ rest) at ≡ Ok b
 reader_back (body.Message n t e) rest at h c =
@@ -169,6 +169,17 @@ pub body_long : (b : Body) → length (body_words b) ≡ body_size b
 body_long (body.Message n t e) = refl
 body_long (body.Block n t a) = omega (arith, alternatives_long a)
 body_long (body.Flow n t g o) = refl
+
+alternatives_short : (a : Alternatives) → alternatives_size a ≤ 3
+alternatives_short ways.None = omega arith
+alternatives_short (ways.One x) = omega arith
+alternatives_short (ways.Two x y) = omega arith
+alternatives_short (ways.Three x y z) = omega arith
+
+pub body_short : (b : Body) → body_size b ≤ 5
+body_short (body.Message n t e) = omega arith
+body_short (body.Block n t a) = omega (arith, alternatives_short a)
+body_short (body.Flow n t g o) = omega arith
 
 -- the words of a body that is read are there
 pub body_fits : (kind : Kind) (ws : List ℕ) (at : ℕ) (b : Body) → body_of kind ws at ≡ Ok b → body_size b ≤ length ws

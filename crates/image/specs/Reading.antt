@@ -1,5 +1,6 @@
 -- What the reader finds, word by word: a word is judged where it stands, and the first bad position is told.
-use Rattle.std.specs.Prelude.{ℕ, zero, suc, ◌+◌, ◌<◌, ◌≤◌, cond, ◌||◌, List, length, drop, replicate, Some, None, Ok, Err, Option, Result, ◌==◌, nat_lt, slice_index, slice_set}
+use Rattle.std.specs.Prelude.{ℕ, zero, suc, ◌+◌, ◌<◌, ◌≤◌, cond, List, [], ◌∷◌, length, drop, replicate, Some, None, Ok, Err, Option, Result, ◌==◌, nat_lt, slice_index, slice_set}
+use Rattle.std.specs.List.{list_any}
 use Rattle.std.specs.Option.{ok_or}
 use Rattle.words.specs.declared.fault.Fault.{Fault}
 use Rattle.words.specs.declared.fault.Fault.TheVariants.{BadWord, NotRising, Ragged}
@@ -153,20 +154,20 @@ flow_of next time rest at =
 abbrev pub alternative_in : List ℕ → ℕ → Option Exit
 alternative_in ws i = cond (nat_lt i (length ws)) (alternative_of (slice_index ws i)) None
 
--- the same, which must be none of three exits
-abbrev pub fresh : Exit → Exit → Exit → ℕ → Option Exit → Result (Option Exit) Fault
-fresh a b c at None = Ok None
-fresh a b c at (Some x) = cond (same x a || (same x b || same x c)) (Err (BadWord at)) (Ok (Some x))
+-- the same, which must be none of the known exits
+abbrev pub fresh : List Exit → ℕ → Option Exit → Result (Option Exit) Fault
+fresh known at None = Ok None
+fresh known at (Some x) = cond (list_any (λ other. same x other) known) (Err (BadWord at)) (Ok (Some x))
 
 abbrev pub third_of : List ℕ → ℕ → Exit → Exit → Exit → Result Alternatives Fault
-third_of ws at next x y = then (fresh next x y at (alternative_in ws 2)) (λ o. elim o [ None ↦ Ok (ways.Two x y) | Some z ↦ Ok (ways.Three x y z) ])
+third_of ws at next x y = then (fresh (next ∷ x ∷ y ∷ []) at (alternative_in ws 2)) (λ o. elim o [ None ↦ Ok (ways.Two x y) | Some z ↦ Ok (ways.Three x y z) ])
 
 abbrev pub second_of : List ℕ → ℕ → Exit → Exit → Result Alternatives Fault
-second_of ws at next x = then (fresh next x x at (alternative_in ws 1)) (λ o. elim o [ None ↦ Ok (ways.One x) | Some y ↦ third_of ws (at + 1) next x y ])
+second_of ws at next x = then (fresh (next ∷ x ∷ []) at (alternative_in ws 1)) (λ o. elim o [ None ↦ Ok (ways.One x) | Some y ↦ third_of ws (at + 1) next x y ])
 
 -- up to three alternatives, which differ from each other and from the next
 abbrev pub alternatives_of : List ℕ → ℕ → Exit → Result Alternatives Fault
-alternatives_of ws at next = then (fresh next next next at (alternative_in ws 0)) (λ o. elim o [ None ↦ Ok ways.None | Some x ↦ second_of ws (at + 1) next x ])
+alternatives_of ws at next = then (fresh (next ∷ []) at (alternative_in ws 0)) (λ o. elim o [ None ↦ Ok ways.None | Some x ↦ second_of ws (at + 1) next x ])
 
 abbrev pub block_of : ℕ → ℕ → List ℕ → ℕ → Result Body Fault
 block_of next time rest at =

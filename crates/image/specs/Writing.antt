@@ -3,6 +3,7 @@ use Rattle.std.specs.Prelude.{ℕ, ◌+◌, cond, List, [], ◌∷◌, ◌++◌,
 use Rattle.words.specs.declared.node.Node.{Node}
 use Rattle.image.specs.declared.places.TooShort.{TooShort}
 use Rattle.image.specs.Nodes.{node_words, image_words}
+use Rattle.image.specs.Reading.{body_size}
 
 -- words put one after another, from a position on
 abbrev pub puts : List ℕ → ℕ → List ℕ → List ℕ
@@ -14,9 +15,10 @@ abbrev pub slot_words : ℕ → Option Node → List ℕ
 slot_words place None = []
 slot_words place (Some node) = node_words place node
 
-abbrev pub slot_live : Option Node → ℕ
-slot_live None = 0
-slot_live (Some node) = 1
+-- how many words that are
+abbrev pub slot_size : Option Node → ℕ
+slot_size None = 0
+slot_size (Some node) = 1 + body_size node.body
 
 -- how many words were written, or how many are needed where room is too small
 abbrev pub write_answer : List (Option Node) → ℕ → Result ℕ TooShort

@@ -3,6 +3,7 @@
 
 mod places;
 mod reader;
+mod sizes;
 mod writer;
 
 pub use places::{Image, TooShort};

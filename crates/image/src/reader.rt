@@ -1,9 +1,10 @@
 //! The reader of an image: it walks over the words in the caller's memory and keeps its position for faults.
-ghost use Rattle.std.specs.Prelude.{◌≡◌, ℕ, ◌+◌, ◌-◌, ◌^◌, ◌<◌, ◌≤◌, Bool, true, false, length, drop, IfOk, nat_lt};
-ghost use Rattle.image.specs.Reading.{judged, place_of, exit_of, time_of, period_of, event_of, target_of, order_of, alternative_of, alternative_in, fresh, message_of, queued_of, flow_of, block_of, alternatives_of, rest_of, cut_of, body_of, body_size, alternatives_size, end_of, node_of, part_size, above, read_image};
+ghost use Rattle.std.specs.Prelude.{◌≡◌, ℕ, ◌+◌, ◌-◌, ◌^◌, ◌<◌, ◌≤◌, Bool, true, false, length, drop, if◌then◌else◌, is_some, IfOk, IfSome};
+ghost use Rattle.image.specs.Reading.{place_of, exit_of, time_of, period_of, event_of, target_of, order_of, alternative_of, alternative_in, fresh, message_of, queued_of, flow_of, block_of, alternatives_of, rest_of, cut_of, body_of, body_size, end_of, node_of, part_size, above, read_image};
 ghost use Rattle.image.specs.Laws.{Accepts, Refuses, WritesBack};
 
 use crate::places::Image;
+use crate::sizes::size;
 use words::{Alternatives, Body, Exit, Fault, Kind, Node, Order, Word, decode};
 
 /// A node and the place that its head names.
@@ -13,79 +14,88 @@ struct Placed {
     node: Node,
 }
 
-/// Where the reader stands in the words of an image.
+/// Where the reader stands in the words of an image, and what it has passed.
 #[derive(Drop)]
 struct Reader<'a> {
     words: &'a [u32],
     position: usize,
+    // The least place that the next head may name: one above the last.
+    floor: u16,
+    // How many nodes were passed.
+    count: usize,
     ghost inside: { position ≤ length words.now },
+    ghost counted: { count ≤ floor },
+    ghost low: { floor ≤ 512 },
 }
 
-fn exit_of(w: u32, at: usize) -> Result<Exit, Fault>
-    ensures { result ≡ judged exit_of w at }
+/// The exit that `w` says where a next is wanted.
+fn exit_of(w: u32) -> Option<Exit>
+    ensures { result ≡ exit_of w }
 {
     match decode(w) {
-        Some(Word::Next(exit)) => Ok(exit),
-        _ => Err(Fault::BadWord(at)),
+        Some(Word::Next(exit)) => Some(exit),
+        _ => None,
     }
 }
 
-fn place_of(w: u32, at: usize) -> Result<u16, Fault>
-    ensures { result ≡ judged place_of w at }
+/// The place that `w` says where a next is wanted that is not the end.
+fn place_of(w: u32) -> Option<u16>
+    ensures { result ≡ place_of w }
+{
+    match exit_of(w) {
+        Some(Exit::Place(place)) => Some(place),
+        _ => None,
+    }
+}
+
+/// The number of ticks that `w` says where a time is wanted.
+fn time_of(w: u32) -> Option<u32>
+    ensures { result ≡ time_of w }
 {
     match decode(w) {
-        Some(Word::Next(Exit::Place(place))) => Ok(place),
-        _ => Err(Fault::BadWord(at)),
+        Some(Word::Time(time)) => Some(time),
+        _ => None,
     }
 }
 
-fn time_of(w: u32, at: usize) -> Result<u32, Fault>
-    ensures { result ≡ judged time_of w at }
+/// The period that `w` says, which is one tick at least.
+fn period_of(w: u32) -> Option<u32>
+    ensures { result ≡ period_of w }
+{
+    time_of(w).filter(|time| *time > 0)
+}
+
+/// The event that `w` says where one is wanted.
+fn event_of(w: u32) -> Option<u32>
+    ensures { result ≡ event_of w }
 {
     match decode(w) {
-        Some(Word::Time(time)) => Ok(time),
-        _ => Err(Fault::BadWord(at)),
+        Some(Word::Event(event)) => Some(event),
+        _ => None,
     }
 }
 
-fn period_of(w: u32, at: usize) -> Result<u32, Fault>
-    ensures { result ≡ judged period_of w at }
-{
-    let time = time_of(w, at)?;
-    if time > 0 {
-        Ok(time)
-    } else {
-        Err(Fault::BadWord(at))
-    }
-}
-
-fn event_of(w: u32, at: usize) -> Result<u32, Fault>
-    ensures { result ≡ judged event_of w at }
+/// The target that `w` says where one is wanted.
+fn target_of(w: u32) -> Option<u16>
+    ensures { result ≡ target_of w }
 {
     match decode(w) {
-        Some(Word::Event(event)) => Ok(event),
-        _ => Err(Fault::BadWord(at)),
+        Some(Word::Target(target)) => Some(target),
+        _ => None,
     }
 }
 
-fn target_of(w: u32, at: usize) -> Result<u16, Fault>
-    ensures { result ≡ judged target_of w at }
+/// The order that `w` says where one is wanted.
+fn order_of(w: u32) -> Option<Order>
+    ensures { result ≡ order_of w }
 {
     match decode(w) {
-        Some(Word::Target(target)) => Ok(target),
-        _ => Err(Fault::BadWord(at)),
+        Some(Word::Order(order)) => Some(order),
+        _ => None,
     }
 }
 
-fn order_of(w: u32, at: usize) -> Result<Order, Fault>
-    ensures { result ≡ judged order_of w at }
-{
-    match decode(w) {
-        Some(Word::Order(order)) => Ok(order),
-        _ => Err(Fault::BadWord(at)),
-    }
-}
-
+/// The alternative that `w` says, if it says one.
 fn alternative_of(w: u32) -> Option<Exit>
     ensures { result ≡ alternative_of w }
 {
@@ -95,20 +105,19 @@ fn alternative_of(w: u32) -> Option<Exit>
     }
 }
 
-/// The alternative that is word `i` of `words`, if there is one; it must be none of three exits.
-fn fresh(
-    words: &[u32],
-    i: usize,
-    known: (Exit, Exit, Exit),
-    at: usize,
-) -> Result<Option<Exit>, Fault>
-    ensures { result ≡ fresh known.0 known.1 known.2 at (alternative_in words.now i) }
+/// The alternative that is word `i` of `words`, if there is one.
+fn alternative_in(words: &[u32], i: usize) -> Option<Exit>
+    ensures { result ≡ alternative_in words.now i }
 {
-    if i >= words.len() {
-        return Ok(None);
-    }
-    match alternative_of(words[i]) {
-        Some(x) if x.is(known.0) || x.is(known.1) || x.is(known.2) => Err(Fault::BadWord(at)),
+    words.get(i).and_then(|word| alternative_of(*word))
+}
+
+/// The same, which must be none of the known exits.
+fn fresh(words: &[u32], i: usize, known: &[Exit], at: usize) -> Result<Option<Exit>, Fault>
+    ensures { result ≡ fresh known.now at (alternative_in words.now i) }
+{
+    match alternative_in(words, i) {
+        Some(x) if known.contains(&x) => Err(Fault::BadWord(at)),
         found => Ok(found),
     }
 }
@@ -118,13 +127,13 @@ fn alternatives(words: &[u32], at: usize, next: Exit) -> Result<Alternatives, Fa
     requires { at + length words.now < 2 ^ 64 }
     ensures { result ≡ alternatives_of words.now at next }
 {
-    let Some(x) = fresh(words, 0, (next, next, next), at)? else {
+    let Some(x) = fresh(words, 0, &[next], at)? else {
         return Ok(Alternatives::None);
     };
-    let Some(y) = fresh(words, 1, (next, x, x), at + 1)? else {
+    let Some(y) = fresh(words, 1, &[next, x], at + 1)? else {
         return Ok(Alternatives::One(x));
     };
-    match fresh(words, 2, (next, x, y), at + 1 + 1)? {
+    match fresh(words, 2, &[next, x, y], at + 1 + 1)? {
         None => Ok(Alternatives::Two(x, y)),
         Some(z) => Ok(Alternatives::Three(x, y, z)),
     }
@@ -134,12 +143,12 @@ fn message(next: u32, time: u32, rest: &[u32], at: usize) -> Result<Body, Fault>
     requires { at + 2 + length rest.now < 2 ^ 64 }
     ensures { result ≡ message_of next time rest.now at }
 {
-    let next = place_of(next, at)?;
-    let offset = time_of(time, at + 1)?;
+    let next = place_of(next).ok_or(Fault::BadWord(at))?;
+    let offset = time_of(time).ok_or(Fault::BadWord(at + 1))?;
     let [event, ..] = rest else {
         return Err(Fault::Ragged(at + 1 + 1));
     };
-    let event = event_of(*event, at + 1 + 1)?;
+    let event = event_of(*event).ok_or(Fault::BadWord(at + 1 + 1))?;
     Ok(Body::Message {
         next,
         offset,
@@ -151,8 +160,8 @@ fn block(next: u32, time: u32, rest: &[u32], at: usize) -> Result<Body, Fault>
     requires { at + 2 + length rest.now < 2 ^ 64 }
     ensures { result ≡ block_of next time rest.now at }
 {
-    let next = exit_of(next, at)?;
-    let period = period_of(time, at + 1)?;
+    let next = exit_of(next).ok_or(Fault::BadWord(at))?;
+    let period = period_of(time).ok_or(Fault::BadWord(at + 1))?;
     let alternatives = alternatives(rest, at + 1 + 1, next)?;
     Ok(Body::Block {
         next,
@@ -168,12 +177,12 @@ fn queued(words: &[u32], at: usize) -> Result<(u16, Order), Fault>
 {
     match words {
         [target, order, ..] => {
-            let target = target_of(*target, at)?;
-            let order = order_of(*order, at + 1)?;
+            let target = target_of(*target).ok_or(Fault::BadWord(at))?;
+            let order = order_of(*order).ok_or(Fault::BadWord(at + 1))?;
             Ok((target, order))
         }
         [target] => {
-            target_of(*target, at)?;
+            target_of(*target).ok_or(Fault::BadWord(at))?;
             Err(Fault::Ragged(at + 1))
         }
         [] => Err(Fault::Ragged(at)),
@@ -184,8 +193,8 @@ fn flow(next: u32, time: u32, rest: &[u32], at: usize) -> Result<Body, Fault>
     requires { at + 2 + length rest.now < 2 ^ 64 }
     ensures { result ≡ flow_of next time rest.now at }
 {
-    let next = place_of(next, at)?;
-    let offset = time_of(time, at + 1)?;
+    let next = place_of(next).ok_or(Fault::BadWord(at))?;
+    let offset = time_of(time).ok_or(Fault::BadWord(at + 1))?;
     let (target, order) = queued(rest, at + 1 + 1)?;
     Ok(Body::Flow {
         next,
@@ -202,16 +211,17 @@ fn cut(kind: Kind, next: u32, at: usize) -> Result<Body, Fault>
 {
     match kind {
         Kind::Message | Kind::Flow => {
-            place_of(next, at)?;
+            place_of(next).ok_or(Fault::BadWord(at))?;
         }
         Kind::Block => {
-            exit_of(next, at)?;
+            exit_of(next).ok_or(Fault::BadWord(at))?;
         }
     }
     Err(Fault::Ragged(at + 1))
 }
 
 /// The words after a head: the next, the time and the rest, which the kind decides.
+#[tactic(auto, using(std::proofs::lemmas::List::take_rest))]
 fn body(kind: Kind, words: &[u32], at: usize) -> Result<Body, Fault>
     requires { at + length words.now < 2 ^ 64 }
     ensures { result ≡ body_of kind words.now at }
@@ -227,141 +237,101 @@ fn body(kind: Kind, words: &[u32], at: usize) -> Result<Body, Fault>
     }
 }
 
-/// How many words a node has after its head.
-fn size(body: Body) -> usize
-    ensures value { result ≡ body_size body }
-    ensures bound { result ≤ 5 }
-{
-    match body {
-        Body::Message { .. } => 3,
-        Body::Block {
-            alternatives: Alternatives::None,
-            ..
-        } => 2,
-        Body::Block {
-            alternatives: Alternatives::One(_),
-            ..
-        } => 3,
-        Body::Block {
-            alternatives: Alternatives::Two(_, _),
-            ..
-        } => 4,
-        Body::Block {
-            alternatives: Alternatives::Three(_, _, _),
-            ..
-        } => 5,
-        Body::Flow { .. } => 4,
-    }
-}
-
-/// The end word after `count` nodes: nothing may follow it.
-fn end(nodes: u16, count: usize, after: &[u32], at: usize) -> Result<Option<Placed>, Fault>
-    requires { at + 1 < 2 ^ 64 }
-    ensures { result ≡ end_of (length after.now) at count nodes }
-{
-    if nodes as usize != count {
-        return Err(Fault::Ragged(at));
-    }
-    if after.len() > 0 {
-        return Err(Fault::Ragged(at + 1));
-    }
-    Ok(None)
-}
-
-/// Whether a head's place is not above the last one; `floor` is one above that.
-fn falls(place: u16, floor: u16) -> bool
-    ensures { result ≡ nat_lt place floor }
-{
-    place < floor
-}
-
-/// The node at the front of `words`, whose place is at least `floor`, or nothing at the end word after `count` nodes.
-fn part(words: &[u32], at: usize, floor: u16, count: usize) -> Result<Option<Placed>, Fault>
-    requires { at + length words.now < 2 ^ 64 }
-    ensures value { result ≡ node_of words.now at floor count }
-    ensures within { IfOk result (λ o. part_size o ≤ length words.now) }
-    ensures placed { IfOk result (above floor) }
-{
-    let [first, after @ ..] = words else {
-        return Err(Fault::Ragged(at));
-    };
-    match decode(*first) {
-        Some(
-            Word::Head {
-                kind,
-                pattern,
-                place,
-            },
-        ) => {
-            if falls(place, floor) {
-                return Err(Fault::NotRising(at));
-            }
-            let body = body(kind, after, at + 1)?;
-            Ok(Some(Placed {
-                place,
-                node: Node { pattern, body },
-            }))
-        }
-        Some(Word::End(nodes)) => end(nodes, count, after, at),
-        _ => Err(Fault::BadWord(at)),
-    }
-}
-
-/// How many words a node takes, or the end word.
-fn part_size(part: Option<Placed>) -> usize
-    ensures value { result ≡ part_size part }
-    ensures bound { result ≤ 6 }
-{
-    match part {
-        Some(placed) => 1 + size(placed.node.body),
-        None => 1,
-    }
-}
-
-/// The words from a position on.
-fn rest(words: &[u32], at: usize) -> &[u32]
-    requires { at ≤ length words.now }
-    ensures { result.now ≡ drop at words.now }
-{
-    &words[at..]
-}
-
 impl<'a> Reader<'a> {
     fn new(words: &'a [u32]) -> Reader<'a>
         ensures words { result.words.now ≡ words.now }
         ensures position { result.position ≡ 0 }
+        ensures floor { result.floor ≡ 0 }
+        ensures count { result.count ≡ 0 }
     {
-        Reader { words, position: 0 }
+        Reader {
+            words,
+            position: 0,
+            floor: 0,
+            count: 0,
+        }
+    }
+
+    /// The end word here, with its number of nodes: nothing may follow it.
+    fn end(&self, nodes: u16, after: &[u32]) -> Result<Option<Placed>, Fault>
+        requires { self.now.position + 1 < 2 ^ 64 }
+        ensures { result ≡ end_of (length after.now) self.now.position self.now.count nodes }
+    {
+        if nodes as usize != self.count {
+            return Err(Fault::Ragged(self.position));
+        }
+        if after.len() > 0 {
+            return Err(Fault::Ragged(self.position + 1));
+        }
+        Ok(None)
+    }
+
+    /// The node here, or nothing at the end word.
+    #[tactic(auto, using(std::proofs::lemmas::List::take_rest))]
+    fn part(&self) -> Result<Option<Placed>, Fault>
+        ensures value { result ≡ node_of (drop self.now.position self.now.words.now) self.now.position self.now.floor self.now.count }
+        ensures within { IfOk result (λ o. self.now.position + part_size o ≤ length self.now.words.now) }
+        ensures placed { IfOk result (above self.now.floor) }
+    {
+        let at = self.position;
+        let [first, after @ ..] = &self.words[at..] else {
+            return Err(Fault::Ragged(at));
+        };
+        match decode(*first) {
+            Some(
+                Word::Head {
+                    kind,
+                    pattern,
+                    place,
+                },
+            ) => {
+                if place < self.floor {
+                    return Err(Fault::NotRising(at));
+                }
+                let body = body(kind, after, at + 1)?;
+                Ok(Some(Placed {
+                    place,
+                    node: Node { pattern, body },
+                }))
+            }
+            Some(Word::End(nodes)) => self.end(nodes, after),
+            _ => Err(Fault::BadWord(at)),
+        }
     }
 
     /// The node here, which is passed, or nothing at the end word.
-    fn node(&mut self, floor: u16, count: usize) -> Result<Option<Placed>, Fault>
-        ensures value { result ≡ node_of (drop self.old.position self.old.words.now) self.old.position floor count }
+    fn node(&mut self) -> Result<Option<Placed>, Fault>
+        ensures value { result ≡ node_of (drop self.old.position self.old.words.now) self.old.position self.old.floor self.old.count }
         ensures same { self.new.words ≡ self.old.words }
-        ensures moved { IfOk result (λ o. self.new.position ≡ self.old.position + part_size o) }
-        ensures placed { IfOk result (above floor) }
+        ensures position { IfOk result (λ o. IfSome o (λ p. self.new.position ≡ self.old.position + part_size (Some p))) }
+        ensures floor { IfOk result (λ o. IfSome o (λ p. self.new.floor ≡ p.place + 1)) }
+        ensures count { IfOk result (λ o. self.new.count ≡ (if is_some o then self.old.count + 1 else self.old.count)) }
+        ensures placed { IfOk result (above self.old.floor) }
     {
-        let at = self.position;
-        let part = part(rest(self.words, at), at, floor, count)?;
-        self.position = at + part_size(part);
+        let part = self.part()?;
+        if let Some(placed) = part {
+            self.position += size(placed.node);
+            self.floor = placed.place + 1;
+            self.count += 1;
+        }
         Ok(part)
     }
 }
 
 /// The nodes of an image, each at its place.
+#[tactic(auto, unfolding(crate::specs::Reading::read_image))]
 fn read_nodes(words: &[u32]) -> Result<Image, Fault>
     ensures { result ≡ read_image words.now }
 {
     let mut reader = Reader::new(words);
     let mut places = [None; 512];
-    let mut nodes = 0;
-    let mut floor = 0;
-    while let Some(placed) = reader.node(floor, nodes)? {
+    while let Some(placed) = reader.node()? {
         places[placed.place as usize] = Some(placed.node);
-        nodes += 1;
-        floor = placed.place + 1;
     }
-    Ok(Image { places, nodes })
+    Ok(Image {
+        places,
+        nodes: reader.count,
+    })
 }
 
 /// Reads an image: what it gives for each place, or the first position at which something is wrong.

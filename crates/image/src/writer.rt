@@ -1,81 +1,14 @@
 //! The writer of an image: all nodes in rising places, and the end word with their number.
-ghost use Rattle.std.specs.Prelude.{◌≡◌, ℕ, ◌+◌, ◌*◌, ◌^◌, ◌<◌, ◌≤◌, length, slice_set};
+ghost use Rattle.std.specs.Prelude.{◌≡◌, ℕ, ◌+◌, ◌*◌, ◌^◌, ◌<◌, ◌≤◌, length, slice_set, sum_by, count_by, is_some};
 ghost use Rattle.words.specs.Format.{written};
-ghost use Rattle.image.specs.Nodes.{kind_of, alternative_words, body_words, live, nodes_words};
+ghost use Rattle.image.specs.Nodes.{kind_of, alternative_words, body_words, nodes_words};
 ghost use Rattle.image.specs.Reading.{body_size, alternatives_size};
-ghost use Rattle.image.specs.Writing.{puts, slot_words, slot_live, write_answer, write_leaves};
+ghost use Rattle.image.specs.Writing.{puts, slot_words, slot_size, write_answer, write_leaves};
 ghost use Rattle.image.specs.Laws.{ReadsBack};
 
 use crate::places::TooShort;
+use crate::sizes::size;
 use words::{Alternatives, Body, Exit, Kind, Node, Word, encode};
-
-/// Writes a word, and tells the position after it.
-fn put(out: &mut [u32], at: usize, word: Word) -> usize
-    requires { at < length out.old }
-    ensures value { result ≡ at + 1 }
-    ensures after { out.new ≡ slice_set out.old at (written word) }
-{
-    out[at] = encode(word);
-    at + 1
-}
-
-fn put_alternatives(out: &mut [u32], at: usize, alternatives: Alternatives) -> usize
-    requires { at + alternatives_size alternatives ≤ length out.old }
-    ensures value { result ≡ at + alternatives_size alternatives }
-    ensures after { out.new ≡ puts out.old at (alternative_words alternatives) }
-{
-    match alternatives {
-        Alternatives::None => at,
-        Alternatives::One(x) => put(out, at, Word::Alternative(x)),
-        Alternatives::Two(x, y) => {
-            let at = put(out, at, Word::Alternative(x));
-            put(out, at, Word::Alternative(y))
-        }
-        Alternatives::Three(x, y, z) => {
-            let at = put(out, at, Word::Alternative(x));
-            let at = put(out, at, Word::Alternative(y));
-            put(out, at, Word::Alternative(z))
-        }
-    }
-}
-
-fn put_body(out: &mut [u32], at: usize, body: Body) -> usize
-    requires { at + body_size body ≤ length out.old }
-    ensures value { result ≡ at + body_size body }
-    ensures after { out.new ≡ puts out.old at (body_words body) }
-{
-    match body {
-        Body::Message {
-            next,
-            offset,
-            event,
-        } => {
-            let at = put(out, at, Word::Next(Exit::Place(next)));
-            let at = put(out, at, Word::Time(offset));
-            put(out, at, Word::Event(event))
-        }
-        Body::Block {
-            next,
-            period,
-            alternatives,
-        } => {
-            let at = put(out, at, Word::Next(next));
-            let at = put(out, at, Word::Time(period));
-            put_alternatives(out, at, alternatives)
-        }
-        Body::Flow {
-            next,
-            offset,
-            target,
-            order,
-        } => {
-            let at = put(out, at, Word::Next(Exit::Place(next)));
-            let at = put(out, at, Word::Time(offset));
-            let at = put(out, at, Word::Target(target));
-            put(out, at, Word::Order(order))
-        }
-    }
-}
 
 fn kind_of(body: Body) -> Kind
     ensures { result ≡ kind_of body }
@@ -87,99 +20,146 @@ fn kind_of(body: Body) -> Kind
     }
 }
 
-/// Writes the node of a place, if it has one.
-fn put_slot(out: &mut [u32], at: usize, place: u16, slot: Option<Node>) -> usize
-    requires { at + length (slot_words place slot) ≤ length out.old }
-    ensures value { result ≡ at + length (slot_words place slot) }
-    ensures after { out.new ≡ puts out.old at (slot_words place slot) }
-{
-    match slot {
-        Some(node) => {
-            let at = put(
-                out,
-                at,
-                Word::Head {
-                    kind: kind_of(node.body),
-                    pattern: node.pattern,
-                    place,
-                },
-            );
-            put_body(out, at, node.body)
-        }
-        None => at,
-    }
-}
-
 /// How many words the node of a place has, with its head.
 fn slot_size(slot: Option<Node>) -> usize
-    ensures value { (place : ℕ) → result ≡ length (slot_words place slot) }
+    ensures value { result ≡ slot_size slot }
     ensures bound { result ≤ 6 }
 {
-    match slot {
-        None => 0,
-        Some(node) => match node.body {
-            Body::Message { .. } => 4,
-            Body::Flow { .. } => 5,
-            Body::Block { alternatives, .. } => match alternatives {
-                Alternatives::None => 3,
-                Alternatives::One(_) => 4,
-                Alternatives::Two(_, _) => 5,
-                Alternatives::Three(_, _, _) => 6,
-            },
-        },
-    }
+    slot.map_or(0, size)
 }
 
 /// How many words the nodes of all places have.
+#[tactic(auto, using(crate::proofs::Puts::sizes_short))]
 fn needed(places: &[Option<Node>]) -> usize
     requires { length places.now ≤ 512 }
-    ensures value { result ≡ length (nodes_words 0 places.now) }
+    ensures value { result ≡ sum_by slot_size places.now }
     ensures bound { result ≤ 3072 }
 {
-    let mut count = 0;
-    for slot in places {
-        count += slot_size(*slot);
-    }
-    count
-}
-
-fn slot_live(slot: Option<Node>) -> usize
-    ensures value { result ≡ slot_live slot }
-    ensures bound { result ≤ 1 }
-{
-    match slot {
-        Some(_) => 1,
-        None => 0,
-    }
+    places.iter().map(|slot| slot_size(*slot)).sum()
 }
 
 /// How many places have a node.
 fn live(places: &[Option<Node>]) -> usize
     requires { length places.now ≤ 512 }
-    ensures value { result ≡ live places.now }
+    ensures value { result ≡ count_by is_some places.now }
     ensures bound { result ≤ 512 }
 {
-    let mut count = 0;
-    for slot in places {
-        count += slot_live(*slot);
-    }
-    count
+    places.iter().filter(|slot| slot.is_some()).count()
 }
 
-/// Writes the nodes of all places, each with its head, and tells the position after them.
-fn put_nodes(out: &mut [u32], places: &[Option<Node>]) -> usize
-    requires few { length places.now ≤ 512 }
-    requires room { length (nodes_words 0 places.now) ≤ length out.old }
-    ensures value { result ≡ length (nodes_words 0 places.now) }
-    ensures after { out.new ≡ puts out.old 0 (nodes_words 0 places.now) }
-{
-    let mut at = 0;
-    for (place, slot) in places.iter().enumerate() {
-        at = put_slot(out, at, place as u16, *slot);
-    }
-    at
+/// Where the writer stands in the caller's memory.
+// The clauses `named` say that a writer goes on lending the words that it was made over: by them the caller knows what
+// the words hold in the end.
+#[derive(Drop)]
+struct Writer<'a> {
+    words: &'a mut [u32],
+    position: usize,
 }
 
+impl<'a> Writer<'a> {
+    /// Writes a word.
+    fn put(&mut self, word: Word)
+        requires { self.old.position < length self.old.words.now }
+        ensures position { self.new.position ≡ self.old.position + 1 }
+        ensures words { self.new.words.now ≡ slice_set self.old.words.now self.old.position (written word) }
+        ensures named { self.new.words.ghost_name ≡ self.old.words.ghost_name }
+    {
+        self.words[self.position] = encode(word);
+        self.position += 1;
+    }
+
+    fn put_alternatives(&mut self, alternatives: Alternatives)
+        requires { self.old.position + alternatives_size alternatives ≤ length self.old.words.now }
+        ensures position { self.new.position ≡ self.old.position + alternatives_size alternatives }
+        ensures words { self.new.words.now ≡ puts self.old.words.now self.old.position (alternative_words alternatives) }
+        ensures named { self.new.words.ghost_name ≡ self.old.words.ghost_name }
+    {
+        match alternatives {
+            Alternatives::None => {}
+            Alternatives::One(x) => self.put(Word::Alternative(x)),
+            Alternatives::Two(x, y) => {
+                self.put(Word::Alternative(x));
+                self.put(Word::Alternative(y));
+            }
+            Alternatives::Three(x, y, z) => {
+                self.put(Word::Alternative(x));
+                self.put(Word::Alternative(y));
+                self.put(Word::Alternative(z));
+            }
+        }
+    }
+
+    fn put_body(&mut self, body: Body)
+        requires { self.old.position + body_size body ≤ length self.old.words.now }
+        ensures position { self.new.position ≡ self.old.position + body_size body }
+        ensures words { self.new.words.now ≡ puts self.old.words.now self.old.position (body_words body) }
+        ensures named { self.new.words.ghost_name ≡ self.old.words.ghost_name }
+    {
+        match body {
+            Body::Message {
+                next,
+                offset,
+                event,
+            } => {
+                self.put(Word::Next(Exit::Place(next)));
+                self.put(Word::Time(offset));
+                self.put(Word::Event(event));
+            }
+            Body::Block {
+                next,
+                period,
+                alternatives,
+            } => {
+                self.put(Word::Next(next));
+                self.put(Word::Time(period));
+                self.put_alternatives(alternatives);
+            }
+            Body::Flow {
+                next,
+                offset,
+                target,
+                order,
+            } => {
+                self.put(Word::Next(Exit::Place(next)));
+                self.put(Word::Time(offset));
+                self.put(Word::Target(target));
+                self.put(Word::Order(order));
+            }
+        }
+    }
+
+    /// Writes the node of a place, if it has one.
+    fn put_slot(&mut self, place: u16, slot: Option<Node>)
+        requires { self.old.position + length (slot_words place slot) ≤ length self.old.words.now }
+        ensures position { self.new.position ≡ self.old.position + length (slot_words place slot) }
+        ensures words { self.new.words.now ≡ puts self.old.words.now self.old.position (slot_words place slot) }
+        ensures named { self.new.words.ghost_name ≡ self.old.words.ghost_name }
+    {
+        if let Some(node) = slot {
+            self.put(Word::Head {
+                kind: kind_of(node.body),
+                pattern: node.pattern,
+                place,
+            });
+            self.put_body(node.body);
+        }
+    }
+
+    /// Writes the nodes of all places, each with its head.
+    fn put_nodes(&mut self, places: &[Option<Node>])
+        requires few { length places.now ≤ 512 }
+        requires room { self.old.position + length (nodes_words 0 places.now) ≤ length self.old.words.now }
+        ensures position { self.new.position ≡ self.old.position + length (nodes_words 0 places.now) }
+        ensures words { self.new.words.now ≡ puts self.old.words.now self.old.position (nodes_words 0 places.now) }
+        ensures named { self.new.words.ghost_name ≡ self.old.words.ghost_name }
+    {
+        for (place, slot) in places.iter().enumerate() {
+            self.put_slot(place as u16, *slot);
+        }
+    }
+}
+
+#[tactic(auto, using(crate::proofs::Puts::nodes_long))]
 fn write_image(places: &[Option<Node>], words: &mut [u32]) -> Result<usize, TooShort>
     requires { length places.now ≤ 512 }
     ensures value { result ≡ write_answer places.now (length words.old) }
@@ -189,8 +169,10 @@ fn write_image(places: &[Option<Node>], words: &mut [u32]) -> Result<usize, TooS
     if words.len() < needed {
         return Err(TooShort { needed });
     }
-    let at = put_nodes(words, places);
-    Ok(put(words, at, Word::End(live(places) as u16)))
+    let mut writer = Writer { words, position: 0 };
+    writer.put_nodes(places);
+    writer.put(Word::End(live(places) as u16));
+    Ok(writer.position)
 }
 
 /// Writes all nodes in rising places as an image to the front of `words`, and tells how many words that are.

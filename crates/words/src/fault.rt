@@ -52,9 +52,8 @@ impl Fault {
         ensures { result ≡ place_of self }
     {
         match self {
-            Fault::BadWord(position) => position,
-            Fault::NotRising(position) => position,
-            Fault::Ragged(position) => position,
+            Fault::BadWord(position) | Fault::NotRising(position) | Fault::Ragged(position) =>
+                position,
         }
     }
 }

@@ -3,7 +3,8 @@ ghost use Rattle.std.specs.Prelude.{◌≡◌};
 ghost use Rattle.words.specs.Exits.{same};
 
 /// Where a way leads: to a place, or out of the programme.
-#[derive(Clone, Copy)]
+// No `Option<u16>`: a way out and a missing way would both be `None`, and the reader answers `Option<Exit>`.
+#[derive(Clone, Copy, PartialEq, Eq, Debug)]
 pub enum Exit {
     /// The lane has come to the end of the programme.
     End,
@@ -16,16 +17,13 @@ impl Exit {
     pub fn is(self, other: Exit) -> bool
         ensures { result ≡ same self other }
     {
-        match (self, other) {
-            (Exit::End, Exit::End) => true,
-            (Exit::Place(m), Exit::Place(n)) => m == n,
-            _ => false,
-        }
+        self == other
     }
 }
 
 /// The ways on from a block beside its next: at most three.
-#[derive(Clone, Copy)]
+// No array of options: it would allow gaps, which the format has not.
+#[derive(Clone, Copy, PartialEq, Eq, Debug)]
 pub enum Alternatives {
     /// No way beside the next.
     None,
@@ -38,7 +36,7 @@ pub enum Alternatives {
 }
 
 /// An order to a block: for so many visits, leave it towards the destination.
-#[derive(Clone, Copy)]
+#[derive(Clone, Copy, PartialEq, Eq, Debug)]
 pub struct Order {
     /// How many visits the order is still good for.
     pub repeats: u8,
@@ -51,7 +49,7 @@ pub struct Order {
 }
 
 /// A pass at a block: for so many visits, leave it by its next.
-#[derive(Clone, Copy)]
+#[derive(Clone, Copy, PartialEq, Eq, Debug)]
 pub struct Pass {
     /// How many visits the pass is still good for.
     pub repeats: u8,
@@ -60,7 +58,7 @@ pub struct Pass {
 }
 
 /// What can wait at a block.
-#[derive(Clone, Copy)]
+#[derive(Clone, Copy, PartialEq, Eq, Debug)]
 pub enum Entry {
     /// A pass.
     Pass(Pass),
@@ -69,7 +67,7 @@ pub enum Entry {
 }
 
 /// What a node does, by its kind.
-#[derive(Clone, Copy)]
+#[derive(Clone, Copy, PartialEq, Eq, Debug)]
 pub enum Body {
     /// Sends an event, due an offset after the lane's tick, and goes on to the next.
     Message {
@@ -93,7 +91,7 @@ pub enum Body {
 }
 
 /// A node of the programme.
-#[derive(Clone, Copy)]
+#[derive(Clone, Copy, PartialEq, Eq, Debug)]
 pub struct Node {
     /// The part of the programme that the node belongs to.
     pub pattern: u8,

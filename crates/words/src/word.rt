@@ -1,6 +1,6 @@
 //! One word of an image, and the 32 bits that it is written as.
 ghost use Rattle.std.specs.Prelude.{◌≡◌, ℕ, ◌+◌, ◌*◌, ◌/◌, ◌%◌, ◌^◌, ◌<◌, ◌≤◌};
-ghost use Rattle.words.specs.Format.{read, place_in, exit_in, kind_by, head_in, repeats_in, order_in, pass_in, end_in, written, kind_number, exit_number, entry_of, entry_as_word};
+ghost use Rattle.words.specs.Format.{read, place_in, exit_in, kind_by, head_in, repeats_in, order_in, pass_in, end_in, written, exit_number, entry_of, entry_as_word};
 ghost use Rattle.words.specs.Laws.{ReadsBack, WritesBack};
 
 use crate::fault::Fault;
@@ -12,19 +12,19 @@ const PLACES: u32 = 512;
 /// What stands in a word for the end of the programme.
 const END: u32 = 4095;
 
-/// The kinds of nodes, as a head names them.
-#[derive(Clone, Copy)]
+/// The kinds of nodes, each by the number that a head names it by.
+#[derive(Clone, Copy, PartialEq, Eq, Debug)]
 pub enum Kind {
     /// A message.
-    Message,
+    Message = 1,
     /// A block.
-    Block,
+    Block = 2,
     /// A flow.
-    Flow,
+    Flow = 3,
 }
 
 /// What a word of an image says.
-#[derive(Clone, Copy)]
+#[derive(Clone, Copy, PartialEq, Eq, Debug)]
 pub enum Word {
     /// A node begins here.
     Head { kind: Kind, pattern: u8, place: u16 },
@@ -44,6 +44,18 @@ pub enum Word {
     Pass(Pass),
     /// The image ends here, after so many nodes.
     End(u16),
+}
+
+/// An order or a pass as the word that gives it.
+impl From<Entry> for Word {
+    ghost from_gives = { λ entry r. r ≡ entry_as_word entry };
+
+    fn from(entry: Entry) -> Word {
+        match entry {
+            Entry::Order(order) => Word::Order(order),
+            Entry::Pass(pass) => Word::Pass(pass),
+        }
+    }
 }
 
 /// The `size` bits of `w` from bit `low` up.
@@ -173,16 +185,6 @@ pub fn decode(w: u32) -> Option<Word>
     word_in(w)
 }
 
-fn kind_number(kind: Kind) -> u32
-    ensures { result ≡ kind_number kind }
-{
-    match kind {
-        Kind::Message => 1,
-        Kind::Block => 2,
-        Kind::Flow => 3,
-    }
-}
-
 fn exit_number(exit: Exit) -> u32
     ensures value { result ≡ exit_number exit }
     ensures bound { result < 2 ^ 12 }
@@ -203,7 +205,7 @@ fn bits_of(word: Word) -> u32
             place,
         } => {
             (1 << 28)
-                + (kind_number(kind) << 24)
+                + ((kind as u32) << 24)
                 + ((pattern as u32) << 16)
                 + field(place as u32, 0, 12)
         }
@@ -250,8 +252,5 @@ pub fn entry(w: u32) -> Result<Entry, Fault>
 pub fn entry_word(entry: Entry) -> u32
     ensures { result ≡ written (entry_as_word entry) }
 {
-    match entry {
-        Entry::Order(order) => bits_of(Word::Order(order)),
-        Entry::Pass(pass) => bits_of(Word::Pass(pass)),
-    }
+    bits_of(Word::from(entry))
 }
