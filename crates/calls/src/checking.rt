@@ -8,19 +8,14 @@ use crate::fault::Fault;
 use crate::judge::used_place;
 use crate::permit::{Permit, Refused};
 use crate::refusals::checkable;
-use reach::{Line, OfPattern};
-use structure::lowest;
-use table::Table;
+use reach::Line;
+use table::{Table, in_pattern};
 
 /// Whether some place is live with the pattern.
 fn has_node(table: &Table, pattern: u8) -> bool
     ensures { SaysNode table.now pattern result }
 {
-    let nodes = &table.nodes;
-    match lowest(&OfPattern { nodes, pattern }) {
-        Some(_) => true,
-        None => false,
-    }
+    table.nodes.iter().any(|node| in_pattern(*node, pattern))
 }
 
 fn check_pattern(table: &mut Table, pattern: u8, chain: &mut [Line]) -> Result<Permit, Fault>

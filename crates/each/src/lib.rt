@@ -1,28 +1,18 @@
 //! A change made to each element of a list, beside another list.
 #![tactic(auto)]
 
-ghost use Rattle.std.specs.Prelude.{◌≡◌, length};
-ghost use Rattle.each.specs.Each.{zipped};
-
-/// What becomes of an element, beside an element of the other list.
-pub trait Change {
-    type Item: Copy;
-
-    type Mark: Copy;
-
-    ghost changed: { Self → Self.Item → Self.Mark → Self.Item };
-
-    /// The element after the change.
-    fn change(&self, item: Self::Item, mark: Self::Mark) -> Self::Item
-        ensures { result ≡ changed self.now item mark };
-}
+ghost use Rattle.std.specs.Prelude.{◌≡◌};
+ghost use Rattle.each.specs.Each.{zipped, ChangedEach, Computes};
 
 /// Changes each element beside the element of the other list with the same number; elements without one stay.
-pub fn change_each<C: Change>(change: &C, items: &mut [C::Item], marks: &[C::Mark])
-    ensures { items.new ≡ zipped (C.changed change.now) items.old marks.now }
+/// What the closure returns for the two is the element after the change.
+pub fn change_each<T: Copy, M: Copy, F: Fn(T, M) -> T>(items: &mut [T], marks: &[M], change: F)
+    requires { F.IsAlwaysCallable change }
+    ensures changed { ChangedEach (F.post change) items.old marks.now items.new }
+    ensures value { (f : T → M → T) → Computes (F.post change) f → items.new ≡ zipped f items.old marks.now }
 {
-    let count = items.len().min(marks.len());
-    for i in 0..count {
-        items[i] = change.change(items[i], marks[i]);
+    // by number, since a proof does not see what is written through `iter_mut().zip(..)`
+    for i in 0..items.len().min(marks.len()) {
+        items[i] = change(items[i], marks[i]);
     }
 }

@@ -5,7 +5,6 @@ mod bounds;
 mod conclusion;
 mod fault;
 mod gather;
-mod kind;
 mod laws;
 mod line;
 mod source;
@@ -14,7 +13,6 @@ mod view;
 
 pub use conclusion::is_block;
 pub use fault::Fault;
-pub use kind::OfPattern;
 pub use laws::laws_of_reach;
 pub use line::{Letter, Line};
 pub use source::Source;

@@ -1,6 +1,6 @@
 //! Whether lanes can come to a place of some kind, and the chain that shows it.
-ghost use Rattle.std.specs.Prelude.{◌≡◌, ℕ, true};
-ghost use Rattle.structure.specs.Lowest.{Yes};
+ghost use Rattle.std.specs.Prelude.{◌≡◌, ℕ, Bool, true};
+ghost use Rattle.structure.specs.Lowest.{Computes, Yes};
 ghost use Rattle.reach.specs.Chains.{InReach};
 ghost use Rattle.reach.specs.Laws.{ReachSaid};
 ghost use Rattle.reach.specs.Scenes.{Empty, IsOfPattern};
@@ -9,22 +9,21 @@ ghost use Rattle.reach.specs.Views.{scene_in};
 
 use crate::bounds::bounded;
 use crate::gather::gather;
-use crate::kind::{Exactly, Following, OfPattern, Vacant};
 use crate::line::Line;
 use crate::view::View;
 use rules::derive;
-use structure::{Question, lowest};
+use structure::{lowest, node_at};
+use table::in_pattern;
 
 /// The lowest place of the kind that lanes can come to, with a chain that ends on it.
-fn judge<Q: Question>(view: &View, kind: &Q, chain: &mut [Line]) -> Option<u16>
-    ensures { Verdict (scene_in view.now) (Yes (Q.Question.says kind.now)) result chain.old chain.new }
+/// The closure answers whether a place is of the kind.
+fn judge<F: Fn(u16) -> bool>(view: &View, kind: F, chain: &mut [Line]) -> Option<u16>
+    requires { F.IsAlwaysCallable kind }
+    ensures { (says : ℕ → Bool) → Computes (F.post kind) says → Verdict (scene_in view.now) (Yes says) result chain.old chain.new }
 {
     bounded(view);
     let found = derive(view);
-    let place = lowest(&Following {
-        found: &found,
-        kind,
-    })?;
+    let place = lowest(|place| found.has(place) && kind(place))?;
     let steps = found.chain_to(view, place)?;
     gather(view, steps.lines(), chain);
     Some(place)
@@ -36,7 +35,11 @@ pub fn into_pattern(view: &View, pattern: u8, chain: &mut [Line]) -> Option<u16>
     ensures { Verdict (scene_in view.now) (IsOfPattern (scene_in view.now) pattern) result chain.old chain.new }
 {
     let nodes = view.nodes;
-    judge(view, &OfPattern { nodes, pattern }, chain)
+    judge(
+        view,
+        |place| in_pattern(node_at(nodes, place), pattern),
+        chain,
+    )
 }
 
 /// A place without a node that lanes can come to, if there is one. Its chain is written to the memory, which is
@@ -45,14 +48,14 @@ pub fn onto_empty(view: &View, chain: &mut [Line]) -> Option<u16>
     ensures { Verdict (scene_in view.now) (Empty (scene_in view.now)) result chain.old chain.new }
 {
     let nodes = view.nodes;
-    judge(view, &Vacant { nodes }, chain)
+    judge(view, |place| node_at(nodes, place).is_none(), chain)
 }
 
 /// The place, if lanes can come to it. Its chain is written to the memory, which is unchanged where they cannot.
 pub fn to_place(view: &View, place: u16, chain: &mut [Line]) -> Option<u16>
     ensures { Verdict (scene_in view.now) (λ (p : ℕ). p ≡ place) result chain.old chain.new }
 {
-    judge(view, &Exactly { place }, chain)
+    judge(view, |p| p == place, chain)
 }
 
 /// Whether lanes can come to a place.

@@ -1,5 +1,5 @@
 -- The lowest of the 512 places that has a property.
-use Rattle.std.specs.Prelude.{◌≡◌, ℕ, ◌<◌, Bool, true, Some, None, Option}
+use Rattle.std.specs.Prelude.{◌≡◌, ℕ, ◌<◌, Bool, true, false, Some, None, Option}
 
 -- no place has it
 abbrev pub Nowhere : (ℕ → Type 0) → Type 0
@@ -18,3 +18,23 @@ FoundLowest P (Some place) = Lowest P place
 -- the answer to a question about a place is yes
 abbrev pub Yes : (ℕ → Bool) → ℕ → Type 0
 Yes says p = says p ≡ true
+
+-- ### by the answers of a closure
+
+-- every one of the 512 places was answered by no
+abbrev pub NowhereBy : (ℕ → Bool → Type 0) → Type 0
+NowhereBy Answers = (q : ℕ) → q < 512 → Answers q false
+
+-- the place was answered by yes, and each below it by no
+pub record LowestAnswered (Answers : ℕ → Bool → Type 0) (place : ℕ) : Type 0 where
+  pub small : place < 512
+  pub here : Answers place true
+  pub below : (q : ℕ) → q < place → Answers q false
+
+abbrev pub LowestBy : (ℕ → Bool → Type 0) → Option ℕ → Type 0
+LowestBy Answers None = NowhereBy Answers
+LowestBy Answers (Some place) = LowestAnswered Answers place
+
+-- whatever is answered for a place is what the function gives there
+abbrev pub Computes : (ℕ → Bool → Type 0) → (ℕ → Bool) → Type 0
+Computes Answers f = (p : ℕ) (b : Bool) → Answers p b → b ≡ f p

@@ -5,7 +5,6 @@ ghost use Rattle.structure.specs.Nodes.{node_at, onward};
 ghost use Rattle.structure.specs.Endings.{ground_of, ending_rule, endings_book};
 
 use crate::node::{node_at, onward};
-use crate::question::Question;
 use rules::{Book, Derived, Rule};
 use words::Node;
 
@@ -64,17 +63,9 @@ impl Book for Endings<'_> {
     }
 }
 
-/// Is the message or flow at a place not among those that are well ended?
-#[derive(Clone, Copy)]
-pub struct NotEnded<'a> {
-    pub nodes: &'a [Option<Node>],
-    pub ended: &'a Derived,
-}
-
-impl Question for NotEnded<'_> {
-    ghost says = { λ s p. is_some (onward (node_at s.nodes.now p)) && not (marks s.ended.now p) };
-
-    fn ask(&self, place: u16) -> bool {
-        onward(node_at(self.nodes, place)).is_some() && !self.ended.has(place)
-    }
+/// Whether the message or flow at a place is not among those that are well ended.
+pub(crate) fn not_ended(nodes: &[Option<Node>], ended: &Derived, place: u16) -> bool
+    ensures { result ≡ (is_some (onward (node_at nodes.now place)) && not (marks ended.now place)) }
+{
+    onward(node_at(nodes, place)).is_some() && !ended.has(place)
 }

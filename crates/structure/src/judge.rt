@@ -1,14 +1,14 @@
 //! The flaws of structure.
 ghost use Rattle.std.specs.Prelude.{◌≡◌};
-ghost use Rattle.structure.specs.Structure.{Endless};
-ghost use Rattle.structure.specs.Lowest.{FoundLowest};
+ghost use Rattle.structure.specs.Structure.{Endless, late, unlisted};
+ghost use Rattle.structure.specs.Lowest.{FoundLowest, Yes};
 ghost use Rattle.structure.specs.Endings.{EndedAlike};
 ghost use Rattle.structure.specs.Flaws.{Told, number_of, place_of};
 
-use crate::ending::{Endings, NotEnded};
-use crate::late::Late;
-use crate::listing::Unlisted;
-use crate::question::lowest;
+use crate::ending::{Endings, not_ended};
+use crate::late::late;
+use crate::listing::unlisted;
+use crate::places::lowest;
 use rules::derive;
 use words::Node;
 
@@ -54,24 +54,27 @@ pub fn lowest_endless(nodes: &[Option<Node>; 512]) -> Option<u16>
     ensures alike { EndedAlike nodes.now }
 {
     let ended = derive(&Endings { nodes });
-    lowest(&NotEnded {
-        nodes,
-        ended: &ended,
-    })
+    lowest(|place| not_ended(nodes, &ended, place))
+}
+
+fn lowest_late(nodes: &[Option<Node>; 512]) -> Option<u16>
+    ensures { FoundLowest (Yes (late nodes.now)) result }
+{
+    lowest(|place| late(nodes, place))
+}
+
+fn lowest_unlisted(nodes: &[Option<Node>; 512]) -> Option<u16>
+    ensures { FoundLowest (Yes (unlisted nodes.now)) result }
+{
+    lowest(|place| unlisted(nodes, place))
 }
 
 /// The flaw of these nodes that is told: late before loop before listing, and of each the lowest place.
 pub fn first_flaw(nodes: &[Option<Node>; 512]) -> Option<Flaw>
     ensures { Told nodes.now result }
 {
-    if let Some(place) = lowest(&Late { nodes }) {
-        return Some(Flaw::Late(place));
-    }
-    if let Some(place) = lowest_endless(nodes) {
-        return Some(Flaw::Loop(place));
-    }
-    match lowest(&Unlisted { nodes }) {
-        Some(place) => Some(Flaw::Listing(place)),
-        None => None,
-    }
+    lowest_late(nodes)
+        .map(Flaw::Late)
+        .or_else(|| lowest_endless(nodes).map(Flaw::Loop))
+        .or_else(|| lowest_unlisted(nodes).map(Flaw::Listing))
 }

@@ -3,7 +3,6 @@ ghost use Rattle.std.specs.Prelude.{◌≡◌};
 ghost use Rattle.structure.specs.Structure.{outruns, node_late, late};
 
 use crate::node::node_at;
-use crate::question::Question;
 use words::{Body, Node};
 
 /// Whether an offset is too large for the node that comes next.
@@ -33,16 +32,9 @@ fn node_late(nodes: &[Option<Node>], node: Option<Node>) -> bool
     }
 }
 
-/// Is the message or flow at a place late?
-#[derive(Clone, Copy)]
-pub struct Late<'a> {
-    pub nodes: &'a [Option<Node>],
-}
-
-impl Question for Late<'_> {
-    ghost says = { λ s. late s.nodes.now };
-
-    fn ask(&self, place: u16) -> bool {
-        node_late(self.nodes, node_at(self.nodes, place))
-    }
+/// Whether the message or flow at a place is late.
+pub(crate) fn late(nodes: &[Option<Node>], place: u16) -> bool
+    ensures { result ≡ late nodes.now place }
+{
+    node_late(nodes, node_at(nodes, place))
 }

@@ -6,8 +6,8 @@ mod judge;
 mod late;
 mod listing;
 mod node;
-mod question;
+mod places;
 
 pub use judge::{Flaw, first_flaw, lowest_endless};
 pub use node::{lists, node_at};
-pub use question::{Question, lowest};
+pub use places::lowest;

@@ -3,7 +3,6 @@ ghost use Rattle.std.specs.Prelude.{◌≡◌};
 ghost use Rattle.structure.specs.Structure.{misses, node_unlisted, unlisted};
 
 use crate::node::{lists, node_at};
-use crate::question::Question;
 use words::{Body, Exit, Node};
 
 /// Whether a live node is no block that lists the exit.
@@ -29,16 +28,9 @@ fn node_unlisted(nodes: &[Option<Node>], node: Option<Node>) -> bool
     }
 }
 
-/// Is the target of the flow at a place live, and no block that lists the order's destination?
-#[derive(Clone, Copy)]
-pub struct Unlisted<'a> {
-    pub nodes: &'a [Option<Node>],
-}
-
-impl Question for Unlisted<'_> {
-    ghost says = { λ s. unlisted s.nodes.now };
-
-    fn ask(&self, place: u16) -> bool {
-        node_unlisted(self.nodes, node_at(self.nodes, place))
-    }
+/// Whether the target of the flow at a place is live, and no block that lists the order's destination.
+pub(crate) fn unlisted(nodes: &[Option<Node>], place: u16) -> bool
+    ensures { result ≡ unlisted nodes.now place }
+{
+    node_unlisted(nodes, node_at(nodes, place))
 }

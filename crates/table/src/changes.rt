@@ -3,105 +3,45 @@ ghost use Rattle.std.specs.Prelude.{◌≡◌};
 ghost use Rattle.table.specs.Tables.{over, fresh, in_pattern, without, cleaned};
 
 use crate::state::Rows;
-use each::Change;
-use rows::PlainRow;
 use words::Node;
 
-/// A node of an image goes to its place.
-#[derive(Clone, Copy)]
-pub struct Over;
-
-impl Change for Over {
-    type Item = Option<Node>;
-
-    type Mark = Option<Node>;
-
-    ghost changed = { λ _. over };
-
-    fn change(&self, item: Option<Node>, mark: Option<Node>) -> Option<Node> {
-        match mark {
-            None => item,
-            Some(node) => Some(node),
-        }
-    }
+/// A node of an image goes to its place; where there is none, the old one stays.
+pub(crate) fn over(old: Option<Node>, new: Option<Node>) -> Option<Node>
+    ensures { result ≡ over old new }
+{
+    new.or(old)
 }
 
 /// The rows of a place that is loaded become empty.
-#[derive(Clone, Copy)]
-pub struct Fresh;
-
-impl Change for Fresh {
-    type Item = Rows;
-
-    type Mark = Option<Node>;
-
-    ghost changed = { λ _. fresh };
-
-    fn change(&self, item: Rows, mark: Option<Node>) -> Rows {
-        match mark {
-            None => item,
-            Some(_) => Rows::empty(),
-        }
-    }
+pub(crate) fn fresh(rows: Rows, new: Option<Node>) -> Rows
+    ensures { result ≡ fresh rows new }
+{
+    new.map_or(rows, |_| Rows::empty())
 }
 
-/// A place is marked where it has a node of the pattern.
-#[derive(Clone, Copy)]
-pub struct InPattern {
-    pub pattern: u8,
-}
-
-impl Change for InPattern {
-    type Item = bool;
-
-    type Mark = Option<Node>;
-
-    ghost changed = { λ s _ node. in_pattern s.pattern node };
-
-    fn change(&self, _item: bool, mark: Option<Node>) -> bool {
-        match mark {
-            None => false,
-            Some(node) => node.pattern == self.pattern,
-        }
-    }
+/// Whether a place with the node is one of the pattern: it is live, and its node is of the pattern.
+pub fn in_pattern(node: Option<Node>, pattern: u8) -> bool
+    ensures { result ≡ in_pattern pattern node }
+{
+    node.is_some_and(|node| node.pattern == pattern)
 }
 
 /// A marked place loses its node.
-#[derive(Clone, Copy)]
-pub struct Without;
-
-impl Change for Without {
-    type Item = Option<Node>;
-
-    type Mark = bool;
-
-    ghost changed = { λ _. without };
-
-    fn change(&self, item: Option<Node>, mark: bool) -> Option<Node> {
-        if mark { None } else { item }
-    }
+pub(crate) fn without(node: Option<Node>, mark: bool) -> Option<Node>
+    ensures { result ≡ without node mark }
+{
+    if mark { None } else { node }
 }
 
 /// A marked place loses its rows; in all others the orders to marked places lose their repeats.
-#[derive(Clone, Copy)]
-pub struct Cleaned<'a> {
-    pub marks: &'a [bool; 512],
-}
-
-impl Change for Cleaned<'_> {
-    type Item = Rows;
-
-    type Mark = bool;
-
-    ghost changed = { λ s. cleaned s.marks.now };
-
-    fn change(&self, item: Rows, mark: bool) -> Rows {
-        if mark {
-            return Rows::empty();
-        }
-        Rows {
-            urgent: item.urgent.forgotten(self.marks),
-            plain: item.plain.forgotten(self.marks),
-        }
+pub(crate) fn cleaned(marks: &[bool; 512], rows: Rows, mark: bool) -> Rows
+    ensures { result ≡ cleaned marks.now rows mark }
+{
+    if mark {
+        return Rows::empty();
+    }
+    Rows {
+        urgent: rows.urgent.forgotten(marks),
+        plain: rows.plain.forgotten(marks),
     }
 }

@@ -4,7 +4,7 @@ ghost use Rattle.each.specs.Each.{zipped};
 ghost use Rattle.table.specs.Tables.{marked, without, cleaned, emptied};
 ghost use Rattle.table.specs.Laws.{Sound};
 
-use crate::changes::{Cleaned, InPattern, Without};
+use crate::changes::{cleaned, in_pattern, without};
 use crate::state::{Rows, Table};
 use each::change_each;
 use words::Node;
@@ -14,7 +14,7 @@ fn marked(nodes: &[Option<Node>; 512], pattern: u8) -> [bool; 512]
     ensures { result ≡ marked pattern nodes.now }
 {
     let mut marks = [false; 512];
-    change_each(&InPattern { pattern }, &mut marks, nodes);
+    change_each(&mut marks, nodes, |_, node| in_pattern(node, pattern));
     marks
 }
 
@@ -22,7 +22,7 @@ fn emptied_nodes(nodes: &[Option<Node>; 512], marks: &[bool; 512]) -> [Option<No
     ensures { result ≡ zipped without nodes.now marks.now }
 {
     let mut nodes = *nodes;
-    change_each(&Without, &mut nodes, marks);
+    change_each(&mut nodes, marks, without);
     nodes
 }
 
@@ -30,7 +30,7 @@ fn cleaned_rows(rows: &[Rows; 512], marks: &[bool; 512]) -> [Rows; 512]
     ensures { result ≡ zipped (cleaned marks.now) rows.now marks.now }
 {
     let mut rows = *rows;
-    change_each(&Cleaned { marks }, &mut rows, marks);
+    change_each(&mut rows, marks, |rows, mark| cleaned(marks, rows, mark));
     rows
 }
 

@@ -1,6 +1,6 @@
 //! What can be wrong with an image on its way into a table.
 ghost use Rattle.std.specs.Prelude.{◌≡◌};
-ghost use Rattle.table.specs.declared.fault.Fault.TheVariants.{Words};
+ghost use Rattle.table.specs.declared.fault.Fault.TheVariants.{Words, Flaw};
 ghost use Rattle.table.specs.Faults.{number_of, layer_of, place_of};
 
 use structure::Flaw;
@@ -57,5 +57,13 @@ impl From<words::Fault> for Fault {
 
     fn from(fault: words::Fault) -> Fault {
         Fault::Words(fault)
+    }
+}
+
+impl From<Flaw> for Fault {
+    ghost from_gives = { λ flaw r. r ≡ Flaw flaw };
+
+    fn from(flaw: Flaw) -> Fault {
+        Fault::Flaw(flaw)
     }
 }

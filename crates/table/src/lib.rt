@@ -7,5 +7,6 @@ mod fault;
 mod loading;
 mod state;
 
+pub use changes::in_pattern;
 pub use fault::Fault;
 pub use state::{Rows, Table};

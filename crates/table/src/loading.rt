@@ -1,33 +1,31 @@
 //! Loading an image into a table, and writing one.
-ghost use Rattle.std.specs.Prelude.{◌≡◌, ◌&&◌, length, is_some};
-ghost use Rattle.structure.specs.Nodes.{node_at};
+ghost use Rattle.std.specs.Prelude.{◌≡◌, length};
+ghost use Rattle.structure.specs.Lowest.{FoundLowest, Yes};
 ghost use Rattle.image.specs.Writing.{write_answer, write_leaves};
 ghost use Rattle.each.specs.Each.{zipped};
 ghost use Rattle.table.specs.Tables.{taken, merged, fresh};
 ghost use Rattle.table.specs.Loading.{Judges, Loads};
 ghost use Rattle.table.specs.Laws.{Sound, LoadsOnce, WrittenBack, LoadsBack};
 
-use crate::changes::{Fresh, Over};
+use crate::changes::{fresh, over};
 use crate::fault::Fault;
 use crate::state::{Rows, Table};
 use each::change_each;
 use image::TooShort;
-use structure::{Question, first_flaw, lowest, node_at};
+use structure::{first_flaw, lowest, node_at};
 use words::Node;
 
-/// Does a place have a node already, and the image one for it?
-#[derive(Clone, Copy)]
-struct Taken<'a, 'b> {
-    old: &'a [Option<Node>],
-    new: &'b [Option<Node>],
+/// Whether a place has a node already, and the image has one for it.
+fn taken(old: &[Option<Node>], new: &[Option<Node>], place: u16) -> bool
+    ensures { result ≡ taken old.now new.now place }
+{
+    node_at(old, place).is_some() && node_at(new, place).is_some()
 }
 
-impl Question for Taken<'_, '_> {
-    ghost says = { λ s. taken s.old.now s.new.now };
-
-    fn ask(&self, place: u16) -> bool {
-        node_at(self.old, place).is_some() && node_at(self.new, place).is_some()
-    }
+fn lowest_taken(old: &[Option<Node>; 512], new: &[Option<Node>; 512]) -> Option<u16>
+    ensures { FoundLowest (Yes (taken old.now new.now)) result }
+{
+    lowest(|place| taken(old, new, place))
 }
 
 /// The old nodes with the new ones at their places.
@@ -35,7 +33,7 @@ fn merged(old: &[Option<Node>; 512], new: &[Option<Node>; 512]) -> [Option<Node>
     ensures { result ≡ merged old.now new.now }
 {
     let mut nodes = *old;
-    change_each(&Over, &mut nodes, new);
+    change_each(&mut nodes, new, over);
     nodes
 }
 
@@ -44,7 +42,7 @@ fn refreshed(rows: &[Rows; 512], new: &[Option<Node>; 512]) -> [Rows; 512]
     ensures { result ≡ zipped fresh rows.now new.now }
 {
     let mut rows = *rows;
-    change_each(&Fresh, &mut rows, new);
+    change_each(&mut rows, new, fresh);
     rows
 }
 
@@ -55,12 +53,12 @@ fn judged(
 ) -> Result<[Option<Node>; 512], Fault>
     ensures { Judges old.now new.now result }
 {
-    if let Some(place) = lowest(&Taken { old, new }) {
+    if let Some(place) = lowest_taken(old, new) {
         return Err(Fault::Taken(place));
     }
     let nodes = merged(old, new);
     match first_flaw(&nodes) {
-        Some(flaw) => Err(Fault::Flaw(flaw)),
+        Some(flaw) => Err(flaw.into()),
         None => Ok(nodes),
     }
 }

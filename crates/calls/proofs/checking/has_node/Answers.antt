@@ -1,8 +1,13 @@
-use Rattle.std.proofs.Common.{◌≤◌, length, arith}
-use Rattle.calls.proofs.Nodes.{none_of}
+use Rattle.std.proofs.Common.{rules, tests}
+use Rattle.std.proofs.lemmas.Iterator.{YieldsList-from_slice}
+use Rattle.std.proofs.lemmas.Iterator.Search.{any_from_yields_List}
+use Rattle.table.specs.Tables.{in_pattern}
+use Rattle.calls.proofs.Nodes.{says_node}
 use Rattle.calls.proofs.checking.has_node.Goals as goal
 
-pub returns-in-None : goal.returns-in-None
-returns-in-None c =
-    let long : length c.args.table.now.nodes ≤ 512 = omega arith in
-    none_of c.args.table.now c.args.pattern long c.in-None.ensures
+pub returns : goal.returns
+returns c =
+    let pattern = c.args.pattern in
+    let nodes = c.args.table.now.nodes in
+    says_node pattern c.args.table.now c.any.result
+    (any_from_yields_List (in_pattern pattern) _ _ c.any.result c.any.ensures.ran (YieldsList-from_slice nodes (cc)) (λ x b q k. search (rules, tests)))
