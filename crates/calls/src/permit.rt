@@ -7,6 +7,7 @@ use crate::fault::Fault;
 /// A permit to remove a pattern. It is used by `remove` or `release`, and cannot be let go otherwise.
 pub struct Permit {
     pattern: u8,
+    // a drop contract that no value meets is refused, so a permit has a mark that some permit bears
     used: bool,
 }
 

@@ -11,6 +11,7 @@ use crate::outlet::Outlet;
 use crate::request::Request;
 
 /// Messages that wait in the caller's slots; the one that is due first is taken first.
+// A count beside slots, and no heap of the library's: the memory is the caller's, and nothing is allocated.
 #[derive(Drop)]
 pub struct EarliestDue<'a> {
     slots: &'a mut [Message],
@@ -70,6 +71,7 @@ impl<'a> EarliestDue<'a> {
         ensures { IsFirstBest before self.now.slots.now len result }
     {
         let mut best = 0;
+        // by number, since a slot is sought and not a message
         for i in 1..len {
             if sooner(self.slots[i], self.slots[best]) {
                 best = i;

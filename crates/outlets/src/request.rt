@@ -14,6 +14,8 @@ pub enum Request {
 }
 
 /// What came of a request.
+// One type for both requests, so that the replies to a list of requests are a list; a `Result<Option<Message>, _>` would
+// give an offer and a take the same `Ok(None)`.
 #[derive(Clone, Copy)]
 pub enum Reply {
     /// None waits that could be taken.

@@ -36,6 +36,7 @@ pub fn serve<O: Outlet>(outlet: &mut O, requests: &[Request], replies: &mut [Rep
     ensures balance { Balanced O.Outlet.meaning.waits outlet.old (take result requests.now) (take result replies.new) outlet.new }
 {
     let n = requests.len().min(replies.len());
+    // by number, since a proof does not see what is written through `iter_mut().zip(..)`
     for i in 0..n {
         replies[i] = answer(outlet, requests[i]);
     }

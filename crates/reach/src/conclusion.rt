@@ -22,8 +22,7 @@ pub(crate) fn state_place(state: LaneState) -> Option<u16>
 {
     match state {
         LaneState::Idle => None,
-        LaneState::Running { place, .. } => Some(place),
-        LaneState::Held { place, .. } => Some(place),
+        LaneState::Running { place, .. } | LaneState::Held { place, .. } => Some(place),
     }
 }
 
@@ -31,13 +30,9 @@ pub(crate) fn state_place(state: LaneState) -> Option<u16>
 pub(crate) fn next_place(node: Option<Node>) -> Option<u16>
     ensures { result ≡ next_place node }
 {
-    match node {
-        None => None,
-        Some(node) => match node.body {
-            Body::Message { next, .. } => Some(next),
-            Body::Block { next, .. } => exit_place(next),
-            Body::Flow { next, .. } => Some(next),
-        },
+    match node?.body {
+        Body::Message { next, .. } | Body::Flow { next, .. } => Some(next),
+        Body::Block { next, .. } => exit_place(next),
     }
 }
 
@@ -45,14 +40,7 @@ pub(crate) fn next_place(node: Option<Node>) -> Option<u16>
 pub fn is_block(node: Option<Node>) -> bool
     ensures { result ≡ is_block node }
 {
-    match node {
-        None => false,
-        Some(node) => match node.body {
-            Body::Message { .. } => false,
-            Body::Block { .. } => true,
-            Body::Flow { .. } => false,
-        },
-    }
+    node.is_some_and(|node| matches!(node.body, Body::Block { .. }))
 }
 
 /// Where an order leads that is good for a visit.
@@ -60,29 +48,22 @@ fn entry_place(entry: Entry) -> Option<u16>
     ensures { result ≡ entry_place entry }
 {
     match entry {
-        Entry::Pass(_) => None,
-        Entry::Order(order) => {
-            if order.repeats > 0 {
-                exit_place(order.destination)
-            } else {
-                None
-            }
-        }
+        Entry::Order(order) if order.repeats > 0 => exit_place(order.destination),
+        _ => None,
     }
 }
 
 fn slot(row: PlainRow, k: u16) -> Entry
     ensures { result ≡ slot row k }
 {
-    let at = k as usize;
-    if at < 4 { row.entries[at] } else { BLANK }
+    row.entries.get(usize::from(k)).copied().unwrap_or(BLANK)
 }
 
 /// Where the entry `k` of a row leads, counted from the oldest, if it waits and is an order that is good for a visit.
 pub(crate) fn waiting_place(row: PlainRow, k: u16) -> Option<u16>
     ensures { result ≡ waiting_place row k }
 {
-    if k < row.count as u16 {
+    if k < u16::from(row.count) {
         entry_place(slot(row, k))
     } else {
         None
@@ -93,13 +74,9 @@ pub(crate) fn waiting_place(row: PlainRow, k: u16) -> Option<u16>
 pub(crate) fn target_of(node: Option<Node>) -> u16
     ensures { result ≡ target_of node }
 {
-    match node {
-        None => 0,
-        Some(node) => match node.body {
-            Body::Message { .. } => 0,
-            Body::Block { .. } => 0,
-            Body::Flow { target, .. } => target,
-        },
+    match node.map(|node| node.body) {
+        Some(Body::Flow { target, .. }) => target,
+        _ => 0,
     }
 }
 
@@ -107,12 +84,8 @@ pub(crate) fn target_of(node: Option<Node>) -> u16
 pub(crate) fn flow_place(node: Option<Node>) -> Option<u16>
     ensures { result ≡ flow_place node }
 {
-    match node {
-        None => None,
-        Some(node) => match node.body {
-            Body::Message { .. } => None,
-            Body::Block { .. } => None,
-            Body::Flow { order, .. } => exit_place(order.destination),
-        },
+    match node?.body {
+        Body::Flow { order, .. } => exit_place(order.destination),
+        _ => None,
     }
 }

@@ -39,8 +39,8 @@ fn rung(place: u16) -> Node {
 /// A full table with a lane at place 511, from which all 512 places are come to one after another.
 fn long_way() -> Table {
     let mut nodes = [None; 512];
-    for place in 0..512 {
-        nodes[place] = Some(rung(place as u16));
+    for (place, node) in (0..512).zip(&mut nodes) {
+        *node = Some(rung(place));
     }
     let mut table = Table::cleared();
     table.nodes = nodes;
@@ -56,11 +56,7 @@ fn long_way() -> Table {
 
 fn main(rt: HostRuntime) -> io::Result<()> {
     let table = long_way();
-    let view = View {
-        nodes: &table.nodes,
-        rows: &table.rows,
-        lanes: &table.lanes,
-    };
+    let view = View::from(&table);
     let mut chain = [BLANK; 512];
     let before = Instant::now(&rt)?;
     let told = into_pattern(&view, LAST, &mut chain);

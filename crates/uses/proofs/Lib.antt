@@ -1,5 +1,6 @@
 pub mod Outcomes
 pub mod Turning
+mod Blanks
 pub mod WholeRows
 pub mod Wholes
 pub mod WholeCalls
