@@ -178,6 +178,7 @@ fn write_image(places: &[Option<Node>], words: &mut [u32]) -> Result<usize, TooS
 
 /// Writes all nodes in rising places as an image to the front of `words`, and tells how many words that are.
 /// Where `words` has too few, nothing is written, and the number needed is told. Words past the image keep what they held.
+#[tactic(auto, using(crate::proofs::Round::written_back))]
 pub fn write(places: &[Option<Node>; 512], words: &mut [u32]) -> Result<usize, TooShort>
     ensures value { result ≡ write_answer places.now (length words.old) }
     ensures after { words.new ≡ write_leaves places.now words.old }
