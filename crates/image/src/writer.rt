@@ -146,6 +146,7 @@ impl<'a> Writer<'a> {
     }
 
     /// Writes the nodes of all places, each with its head.
+    #[tactic(auto, using(crate::proofs::Puts::size_more, crate::proofs::Puts::puts_more, crate::proofs::Puts::puts_long))]
     fn put_nodes(&mut self, places: &[Option<Node>])
         requires few { length places.now ≤ 512 }
         requires room { self.old.position + length (nodes_words 0 places.now) ≤ length self.old.words.now }
@@ -159,7 +160,7 @@ impl<'a> Writer<'a> {
     }
 }
 
-#[tactic(auto, using(crate::proofs::Puts::nodes_long))]
+#[tactic(auto, using(crate::proofs::Puts::nodes_long, crate::proofs::Puts::image_long, crate::proofs::Puts::puts_long))]
 fn write_image(places: &[Option<Node>], words: &mut [u32]) -> Result<usize, TooShort>
     requires { length places.now ≤ 512 }
     ensures value { result ≡ write_answer places.now (length words.old) }
@@ -177,6 +178,7 @@ fn write_image(places: &[Option<Node>], words: &mut [u32]) -> Result<usize, TooS
 
 /// Writes all nodes in rising places as an image to the front of `words`, and tells how many words that are.
 /// Where `words` has too few, nothing is written, and the number needed is told. Words past the image keep what they held.
+#[tactic(auto, using(crate::proofs::Round::written_back))]
 pub fn write(places: &[Option<Node>; 512], words: &mut [u32]) -> Result<usize, TooShort>
     ensures value { result ≡ write_answer places.now (length words.old) }
     ensures after { words.new ≡ write_leaves places.now words.old }
