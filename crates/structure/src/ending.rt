@@ -19,14 +19,14 @@ fn ground(nodes: &[Option<Node>], next: u16) -> Option<u16>
 fn ending_rule(nodes: &[Option<Node>], place: u16) -> Rule
     ensures { result ≡ ending_rule nodes.now place }
 {
-    onward(node_at(nodes, place)).map_or(
-        Rule::NONE,
-        |next| Rule {
-            first: ground(nodes, next),
-            conclusion: Some(place),
-            ..Rule::NONE
-        },
-    )
+    let Some(next) = onward(node_at(nodes, place)) else {
+        return Rule::NONE;
+    };
+    Rule {
+        first: ground(nodes, next),
+        conclusion: Some(place),
+        ..Rule::NONE
+    }
 }
 
 /// The book by which messages and flows are well ended: a rule for each place.
