@@ -7,22 +7,15 @@ ghost use Rattle.ladder.specs.Books.{knot_rule, ladder_rule};
 
 use rules::{Book, Chain, Rule, derive};
 
-const NO_RULE: Rule = Rule {
-    first: None,
-    second: None,
-    conclusion: None,
-};
-
 const RULES: [Rule; 4] = [
     Rule {
-        first: None,
-        second: None,
         conclusion: Some(0),
+        ..Rule::NONE
     },
     Rule {
         first: Some(0),
-        second: None,
         conclusion: Some(1),
+        ..Rule::NONE
     },
     Rule {
         first: Some(1),
@@ -31,8 +24,8 @@ const RULES: [Rule; 4] = [
     },
     Rule {
         first: Some(3),
-        second: None,
         conclusion: Some(3),
+        ..Rule::NONE
     },
 ];
 
@@ -50,7 +43,7 @@ impl Book for Knot {
     }
 
     fn rule(&self, i: usize) -> Rule {
-        if i < 4 { RULES[i] } else { NO_RULE }
+        RULES.get(i).copied().unwrap_or(Rule::NONE)
     }
 }
 
@@ -59,9 +52,7 @@ pub fn follows(place: u16) -> bool
     ensures only { result ≡ true → place < 3 }
     ensures each { place < 3 → result ≡ true }
 {
-    let book = Knot;
-    let found = derive(&book);
-    found.has(place)
+    derive(&Knot).has(place)
 }
 
 /// Place 0 follows from nothing, and each other from the one below it; the rules stand in the worst order for sweeps.
@@ -81,14 +72,13 @@ impl Book for Ladder {
         if i < 511 {
             Rule {
                 first: Some((510 - i) as u16),
-                second: None,
                 conclusion: Some((511 - i) as u16),
+                ..Rule::NONE
             }
         } else {
             Rule {
-                first: None,
-                second: None,
                 conclusion: Some(0),
+                ..Rule::NONE
             }
         }
     }
@@ -98,7 +88,5 @@ impl Book for Ladder {
 pub fn climb(place: u16) -> Option<Chain>
     ensures { MatchOption result (512 ≤ place) (λ c. Leads 512 ladder_rule (lines_of c) place) }
 {
-    let book = Ladder;
-    let found = derive(&book);
-    found.chain_to(&book, place)
+    derive(&Ladder).chain_to(&Ladder, place)
 }

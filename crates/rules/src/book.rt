@@ -11,6 +11,15 @@ pub struct Rule {
     pub conclusion: Option<u16>,
 }
 
+impl Rule {
+    /// The slot that holds no rule.
+    pub const NONE: Rule = Rule {
+        first: None,
+        second: None,
+        conclusion: None,
+    };
+}
+
 /// A fixed list of rules: those with a number below the book's count.
 pub trait Book {
     ghost size: { Self → ℕ };

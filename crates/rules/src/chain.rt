@@ -13,6 +13,7 @@ pub struct Line {
 /// A list of at most 512 lines.
 #[derive(Clone, Copy)]
 pub struct Chain {
+    // a fixed array and a length, since nothing is allocated and a chain is given by value
     lines: [Line; 512],
     len: usize,
 }
@@ -32,10 +33,9 @@ impl Chain {
     pub(crate) fn push(&mut self, line: Line)
         ensures { self.new ≡ pushed self.old line }
     {
-        let n = self.len;
-        if n < 512 {
-            self.lines[n] = line;
-            self.len = n + 1;
+        if self.len < 512 {
+            self.lines[self.len] = line;
+            self.len += 1;
         }
     }
 
@@ -44,11 +44,7 @@ impl Chain {
         ensures value { result.now ≡ lines_of self.now }
         ensures few { length result.now ≤ 512 }
     {
-        if self.len < 512 {
-            &self.lines[0..self.len]
-        } else {
-            &self.lines
-        }
+        &self.lines[..self.len.min(512)]
     }
 
     /// How many lines there are.
@@ -62,12 +58,7 @@ impl Chain {
     pub fn line(&self, i: usize) -> Option<Line>
         ensures { Stands (lines_of self.now) i result }
     {
-        let lines = self.lines();
-        if i < lines.len() {
-            Some(lines[i])
-        } else {
-            None
-        }
+        self.lines().get(i).copied()
     }
 
     /// The lines up to the one that gives a place.
@@ -75,11 +66,7 @@ impl Chain {
         ensures { MatchOption result (On (lines_of self.now) place → ⊥) (λ l. Beginning (lines_of self.now) l.now place) }
     {
         let lines = self.lines();
-        for (i, line) in lines.iter().enumerate() {
-            if line.place == place {
-                return Some(&lines[0..i + 1]);
-            }
-        }
-        None
+        let last = lines.iter().position(|line| line.place == place)?;
+        Some(&lines[..=last])
     }
 }

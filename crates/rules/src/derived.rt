@@ -52,9 +52,7 @@ impl Derived {
     pub fn chain_to<B: Book>(&self, book: &B, place: u16) -> Option<Chain>
         ensures { Found (B.size book.now) (B.rules book.now) self.now → MatchOption result (Derivable (B.size book.now) (B.rules book.now) place → ⊥) (λ c. Leads (B.size book.now) (B.rules book.now) (lines_of c) place) }
     {
-        let Some(lines) = self.chain.up_to(place) else {
-            return None;
-        };
+        let lines = self.chain.up_to(place)?;
         Some(narrow(lines, book, place))
     }
 

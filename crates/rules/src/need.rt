@@ -16,8 +16,8 @@ fn needs<B: Book>(lines: &[Line], book: &B, place: u16) -> Places
     let mut needed = Places::none();
     needed.add(place);
     // a line is needed by later ones only, so these come first
-    for i in (0..lines.len()).rev() {
-        needed.want(lines[i].place, book.rule(lines[i].rule));
+    for line in lines.iter().rev() {
+        needed.want(line.place, book.rule(line.rule));
     }
     needed
 }

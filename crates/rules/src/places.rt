@@ -26,8 +26,7 @@ impl Places {
     pub fn has(&self, place: u16) -> bool
         ensures { result ≡ holds self.now place }
     {
-        let at = place as usize;
-        at < 512 && self.marked[at]
+        self.marked.get(place as usize).copied().unwrap_or(false)
     }
 
     /// Whether a ground is met: it is none, or a place of the set.
@@ -35,10 +34,7 @@ impl Places {
         ensures met { result ≡ true → Met (λ p. holds self.now p ≡ true) ground }
         ensures told { Met (λ p. holds self.now p ≡ true) ground → result ≡ true }
     {
-        match ground {
-            None => true,
-            Some(place) => self.has(place),
-        }
+        ground.is_none_or(|place| self.has(place))
     }
 
     /// Puts a place into the set; there is none of 512 or more.

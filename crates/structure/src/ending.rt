@@ -8,34 +8,24 @@ use crate::node::{node_at, onward};
 use rules::{Book, Derived, Rule};
 use words::Node;
 
-/// A slot of a book that holds no rule.
-const NO_RULE: Rule = Rule {
-    first: None,
-    second: None,
-    conclusion: None,
-};
-
 /// The ground that a place is well ended by: a message or flow, which has to be well ended itself, or none.
 fn ground(nodes: &[Option<Node>], next: u16) -> Option<u16>
     ensures { result ≡ ground_of nodes.now next }
 {
-    match onward(node_at(nodes, next)) {
-        Some(_) => Some(next),
-        None => None,
-    }
+    onward(node_at(nodes, next)).and(Some(next))
 }
 
 /// The rule by which the message or flow at a place is well ended.
 fn ending_rule(nodes: &[Option<Node>], place: u16) -> Rule
     ensures { result ≡ ending_rule nodes.now place }
 {
-    match onward(node_at(nodes, place)) {
-        Some(next) => Rule {
-            first: ground(nodes, next),
-            second: None,
-            conclusion: Some(place),
-        },
-        None => NO_RULE,
+    let Some(next) = onward(node_at(nodes, place)) else {
+        return Rule::NONE;
+    };
+    Rule {
+        first: ground(nodes, next),
+        conclusion: Some(place),
+        ..Rule::NONE
     }
 }
 
@@ -58,7 +48,7 @@ impl Book for Endings<'_> {
         if i < 512 {
             ending_rule(self.nodes, i as u16)
         } else {
-            NO_RULE
+            Rule::NONE
         }
     }
 }

@@ -40,9 +40,7 @@ impl Flaw {
         ensures { result ≡ place_of self }
     {
         match self {
-            Flaw::Late(place) => place,
-            Flaw::Loop(place) => place,
-            Flaw::Listing(place) => place,
+            Flaw::Late(place) | Flaw::Loop(place) | Flaw::Listing(place) => place,
         }
     }
 }

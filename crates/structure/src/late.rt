@@ -9,27 +9,21 @@ use words::{Body, Node};
 fn outruns(offset: u32, node: Option<Node>) -> bool
     ensures { result ≡ outruns offset node }
 {
-    match node {
-        None => false,
-        Some(node) => match node.body {
-            Body::Message { offset: o, .. } => o < offset,
-            Body::Block { period, .. } => period <= offset,
-            Body::Flow { offset: o, .. } => o < offset,
-        },
-    }
+    node.is_some_and(|node| match node.body {
+        Body::Message { offset: o, .. } | Body::Flow { offset: o, .. } => o < offset,
+        Body::Block { period, .. } => period <= offset,
+    })
 }
 
 fn node_late(nodes: &[Option<Node>], node: Option<Node>) -> bool
     ensures { result ≡ node_late nodes.now node }
 {
-    match node {
-        None => false,
-        Some(node) => match node.body {
-            Body::Message { next, offset, .. } => outruns(offset, node_at(nodes, next)),
-            Body::Block { .. } => false,
-            Body::Flow { next, offset, .. } => outruns(offset, node_at(nodes, next)),
-        },
-    }
+    node.is_some_and(|node| match node.body {
+        Body::Message { next, offset, .. } | Body::Flow { next, offset, .. } => {
+            outruns(offset, node_at(nodes, next))
+        }
+        Body::Block { .. } => false,
+    })
 }
 
 /// Whether the message or flow at a place is late.

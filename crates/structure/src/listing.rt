@@ -9,23 +9,16 @@ use words::{Body, Exit, Node};
 fn misses(node: Option<Node>, exit: Exit) -> bool
     ensures { result ≡ misses node exit }
 {
-    match node {
-        None => false,
-        Some(_) => !lists(node, exit),
-    }
+    node.is_some() && !lists(node, exit)
 }
 
 fn node_unlisted(nodes: &[Option<Node>], node: Option<Node>) -> bool
     ensures { result ≡ node_unlisted nodes.now node }
 {
-    match node {
-        None => false,
-        Some(node) => match node.body {
-            Body::Message { .. } => false,
-            Body::Block { .. } => false,
-            Body::Flow { target, order, .. } => misses(node_at(nodes, target), order.destination),
-        },
-    }
+    node.is_some_and(|node| match node.body {
+        Body::Flow { target, order, .. } => misses(node_at(nodes, target), order.destination),
+        Body::Message { .. } | Body::Block { .. } => false,
+    })
 }
 
 /// Whether the target of the flow at a place is live, and no block that lists the order's destination.

@@ -8,21 +8,16 @@ use words::{Alternatives, Body, Exit, Node};
 pub fn node_at(nodes: &[Option<Node>], place: u16) -> Option<Node>
     ensures { result ≡ node_at nodes.now place }
 {
-    let at = place as usize;
-    if at < nodes.len() { nodes[at] } else { None }
+    nodes.get(place as usize).copied().flatten()
 }
 
 /// The next of a message or a flow.
 pub fn onward(node: Option<Node>) -> Option<u16>
     ensures { result ≡ onward node }
 {
-    match node {
-        None => None,
-        Some(node) => match node.body {
-            Body::Message { next, .. } => Some(next),
-            Body::Block { .. } => None,
-            Body::Flow { next, .. } => Some(next),
-        },
+    match node?.body {
+        Body::Message { next, .. } | Body::Flow { next, .. } => Some(next),
+        Body::Block { .. } => None,
     }
 }
 
@@ -41,16 +36,12 @@ fn among(alternatives: Alternatives, exit: Exit) -> bool
 pub fn lists(node: Option<Node>, exit: Exit) -> bool
     ensures { result ≡ lists node exit }
 {
-    match node {
-        None => false,
-        Some(node) => match node.body {
-            Body::Message { .. } => false,
-            Body::Block {
-                next,
-                alternatives,
-                ..
-            } => next.is(exit) || among(alternatives, exit),
-            Body::Flow { .. } => false,
-        },
-    }
+    node.is_some_and(|node| match node.body {
+        Body::Block {
+            next,
+            alternatives,
+            ..
+        } => next.is(exit) || among(alternatives, exit),
+        Body::Message { .. } | Body::Flow { .. } => false,
+    })
 }

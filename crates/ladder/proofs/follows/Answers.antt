@@ -4,7 +4,7 @@ use Rattle.ladder.proofs.follows.Goals as goal
 
 pub returns : goal.returns
 returns c =
-    let derived = c.derive-found.ensures in
+    let derived = c.derive.ensures in
     let p = c.args.place in
     record {
       only = λ e. only derived.laws p (derived.found.sound p (sym c.has.ensures ∙ e));
