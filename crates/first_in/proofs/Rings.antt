@@ -1,5 +1,5 @@
 -- What a read, a write and a step of the head come to in a ring of slots.
-use Rattle.std.proofs.Common.{◌≡◌, ℕ, ◌+◌, ◌-◌, ◌<◌, ◌≤◌, min, cond, ltb, List, [], ◌∷◌, ◌++◌, length, get_or, take, drop, set, Some, sym, ap, ◌∙◌, ⊎_elim, append_assoc, append-nil, add-one, arith, length-append, length-drop, length-set, take-append-drop, length-take, take_all, drop-set-lt}
+use Rattle.std.proofs.Common.{◌≡◌, ℕ, ◌+◌, ◌-◌, ◌<◌, ◌≤◌, min, cond, ltb, List, [], ◌∷◌, ◌++◌, length, get_or, take, drop, set, Some, sym, ap, ◌∙◌, ⊎_elim, append_assoc, append-nil, add-one, arith, length-append, length-drop, length-set, length-take, take_all, drop-set-lt}
 use lib.Seq.{take-set-lt, take-set-le, drop-set-add, set-append_left, take-append-le}
 use borrow.Rule.Slice.Mut.{set_vals}
 use Rattle.std.proofs.lemmas.List.{drop_all, take_more, take_more_set, drop_more, set-append_right, take-take, drop-drop, get_or_append_left, get_or-append_right, get_or-drop, get_or-take}
@@ -29,12 +29,6 @@ start_high h size l = cond-false _ _ _ (le-ltb h size l)
 
 start_within : (h size : ℕ) → 0 < size → start_of h size < size
 start_within h size p = ⊎_elim (λ l. omega (arith, start_low h size l)) (λ l. omega (arith, start_high h size l)) (cases_lt h size)
-
-pub place_within : (h n size : ℕ) → n < size → place_of h n size < size
-place_within h n size l =
-    let k = start_of h size in
-    let kl : k < size = start_within h size (omega arith) in
-    ⊎_elim (λ b. omega (arith, behind_low k n size b)) (λ b. omega (arith, behind_high k n size b)) (cases_lt n (size - k))
 
 -- from the first slot on, item n stands in slot n
 pub place_front : (n size : ℕ) → n < size → place_of 0 n size ≡ n
@@ -153,15 +147,3 @@ gathered_put q start at x e h = record {
       let lt : at < q.len + 1 = omega arith in
       drop-set-lt (q.len + 1) q.slots.now at x lt ∙ sym (drop-drop 1 q.len q.slots.now) ∙ ap (drop 1) h.rest ∙ drop-drop 1 q.len start;
 }
-
--- what the slots hold then
-pub gathered_is : {T : Type 0} (q : FirstIn T) (start : List T) → Gathered start q → q.slots.now ≡ items q ++ drop (length (items q)) start
-gathered_is q start h =
-    let s = q.slots.now in
-    let it : items q ≡ take q.len s = ap (λ i. ring s i q.len) h.front ∙ ap (take q.len) (append-nil s) in
-    let tail : drop (length (items q)) start ≡ drop q.len s =
-    ⊎_elim
-    (λ l. ap (λ k. drop k start) (omega (arith, length-ring s q.head q.len)) ∙ sym h.rest)
-    (λ l. drop_all (length (items q)) start (omega (arith, length-ring s q.head q.len, h.long)) ∙ sym (drop_all q.len s l))
-    (cases_lt q.len (length s)) in
-    sym (ap (λ l. l ++ drop (length (items q)) start) it ∙ ap (λ l. take q.len s ++ l) tail ∙ take-append-drop q.len s)

@@ -2,8 +2,6 @@
 ghost use Rattle.std.specs.Prelude.{◌≡◌, min, ◌++◌, map, length, take, drop};
 ghost use Rattle.first_in_uses.specs.Lines.{line_of};
 
-use first_in::FirstIn;
-
 /// What a line says of its place.
 #[derive(Clone, Copy)]
 pub enum Letter {
@@ -38,9 +36,5 @@ pub fn gather(lines: &mut [Line], places: &[u16]) -> usize
     ensures count { result ≡ min (length places.now) (length lines.old) }
     ensures lines { lines.new ≡ map line_of (take result places.now) ++ drop result lines.old }
 {
-    let mut list = FirstIn::new(lines);
-    for place in places {
-        let _ = list.push(sent(*place));
-    }
-    list.finish()
+    first_in::gather(lines, places, sent)
 }

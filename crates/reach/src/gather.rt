@@ -7,7 +7,6 @@ ghost use Rattle.reach.specs.Book.{line_by, line_of};
 use crate::line::{Letter, Line};
 use crate::source::{Source, numbered};
 use crate::view::View;
-use first_in::FirstIn;
 
 /// The line that says that a place is come to by a source.
 fn line_by(view: &View, source: Source, place: u16) -> Line
@@ -52,9 +51,5 @@ fn line_of(view: &View, line: rules::Line) -> Line
 pub(crate) fn gather(view: &View, lines: &[rules::Line], chain: &mut [Line])
     ensures { chain.new ≡ with_chain chain.old (map (line_of (scene_in view.now)) lines.now) }
 {
-    let mut list = FirstIn::new(chain);
-    for line in lines {
-        let _ = list.push(line_of(view, *line));
-    }
-    let _ = list.finish();
+    let _ = first_in::gather(chain, lines, |line| line_of(view, line));
 }
