@@ -4,18 +4,19 @@ ghost use Rattle.lanes.specs.declared.lane.LaneCall.TheVariants.{Hold, Resume, A
 ghost use Rattle.calls.specs.Calls.{CallOnLane};
 
 use crate::fault::Fault;
-use lanes::{LaneCall, LaneFault};
+use lanes::{LaneCall, LaneNumber};
 use table::Table;
 
 /// Makes a call on a lane: its state and the call together decide.
 fn call(table: &mut Table, lane: u32, call: LaneCall) -> Result<(), Fault>
     ensures { CallOnLane call table.old lane result table.new }
 {
-    match table.lanes.call(lane as usize, call) {
-        Ok(()) => Ok(()),
-        Err(LaneFault::NoLane) => Err(Fault::Range(0)),
-        Err(LaneFault::WrongState) => Err(Fault::State(lane as u8)),
-    }
+    let number = LaneNumber::new(lane).ok_or(Fault::Range(0))?;
+    table
+        .lanes
+        .at_mut(number)
+        .call(call)
+        .map_err(|_| Fault::State(u8::from(number)))
 }
 
 /// A running lane stops where it is.
