@@ -11,7 +11,7 @@ pub struct Image {
 }
 
 /// The caller's memory has too few words for an image.
-#[derive(Clone, Copy)]
+#[derive(Clone, Copy, PartialEq, Eq, Debug)]
 pub struct TooShort {
     /// How many words the image needs.
     pub needed: usize,

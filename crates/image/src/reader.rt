@@ -260,7 +260,7 @@ impl<'a> Reader<'a> {
         if nodes as usize != self.count {
             return Err(Fault::Ragged(self.position));
         }
-        if after.len() > 0 {
+        if !after.is_empty() {
             return Err(Fault::Ragged(self.position + 1));
         }
         Ok(None)
