@@ -35,8 +35,7 @@ impl Fault {
     {
         match self {
             Fault::Words(fault) => fault.layer(),
-            Fault::Taken(_) => Layer::Table,
-            Fault::Flaw(_) => Layer::Table,
+            Fault::Taken(_) | Fault::Flaw(_) => Layer::Table,
         }
     }
 

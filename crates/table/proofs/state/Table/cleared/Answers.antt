@@ -3,5 +3,5 @@ use Rattle.table.specs.Laws.{Sound}
 use Rattle.table.proofs.Keeps.{cleared_sound}
 use Rattle.table.proofs.state.Table.cleared.Goals as goal
 
-pub returns : goal.returns
-returns c = record { value = c.nothing.ensures; sound = subst Sound (sym c.nothing.ensures) cleared_sound }
+pub returns-clause-sound : goal.returns-clause-sound
+returns-clause-sound c = subst Sound (sym c.nothing.ensures) cleared_sound
