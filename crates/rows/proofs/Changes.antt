@@ -1,21 +1,12 @@
 -- What each change of a row does to the list of waiting entries, and that blank slots stay blank.
-use Rattle.std.proofs.Common.{◌≡◌, ℕ, zero, suc, ◌<◌, ◌≤◌, Bool, ◌⊎◌, List, map, length, get_or, replicate, sym, refl, ap, ◌∙◌, inl, inr, arith, length-take-le, get_or-take, ext_get_or}
+use Rattle.std.proofs.Common.{◌≡◌, ℕ, ◌<◌, ◌≤◌, Bool, ◌⊎◌, List, map, length, get_or, sym, ap, ◌∙◌, inl, inr, arith, length-take-le, get_or-take, ext_get_or}
 use lib.ListN.{get_or-map}
 use Rattle.std.proofs.lemmas.Bool.{cases_lt}
 use Rattle.std.proofs.lemmas.List.{take-map}
 use Rattle.words.specs.declared.node.Entry.{Entry}
 use Rattle.rows.specs.declared.plain.PlainRow.{PlainRow}
 use Rattle.rows.specs.Entries.{blank, forgotten_entry}
-use Rattle.rows.specs.Rows.{waiting, slot, Canonical, ToldByWaiting, empty_row, forgotten}
-
--- behind blanks too a read gives a blank
-blanks : (n k : ℕ) → get_or (replicate n blank) k blank ≡ blank
-blanks zero k = refl
-blanks (suc n) zero = refl
-blanks (suc n) (suc k) = blanks n k
-
-pub canonical_empty : Canonical empty_row
-canonical_empty k l = blanks 4 k
+use Rattle.rows.specs.Rows.{waiting, slot, Canonical, ToldByWaiting, forgotten}
 
 pub waiting_forgotten : (places : List Bool) (p : PlainRow) → waiting (forgotten places p) ≡ map (forgotten_entry places) (waiting p)
 waiting_forgotten places p = take-map (forgotten_entry places) p.count p.entries

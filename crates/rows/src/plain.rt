@@ -47,6 +47,7 @@ impl PlainRow {
 
 /// A law of rows that hold `BLANK` behind their entries: the empty row is one, and two of them are equal where the same
 /// entries wait.
+#[tactic(auto, using(crate::proofs::Changes::told_by_waiting))]
 pub fn blank_behind()
     ensures empty { Canonical empty_row }
     ensures told { ToldByWaiting }
