@@ -11,7 +11,7 @@ use crate::player::Player;
 use crate::refusing::refused_plainly;
 use outlets::Outlet;
 use script::Name;
-use std::alloc::{AllocError, Global};
+use std::alloc::AllocError;
 use words::Node;
 
 /// How many words a node has at most.
@@ -27,27 +27,27 @@ fn useful(nodes: &[Option<Node>; 512], room: usize) -> usize
 
 impl<O: Outlet> Player<O> {
     /// Loads the image of the words.
-    pub(crate) fn load(&mut self, heap: Global, words: &[u32]) -> Answer
+    pub(crate) fn load(&mut self, words: &[u32]) -> Answer
         ensures { Plays O.Outlet.waits O.Outlet.total O.Outlet.capacity (stage_of self.old) (load_said words.now) (told result) (stage_of self.new) }
     {
         match self.sequencer.load(words) {
             Ok(nodes) => Answer::Loaded(nodes),
-            Err(fault) => refused_plainly(heap, Name::Load, fault),
+            Err(fault) => refused_plainly(self.heap, Name::Load, fault),
         }
     }
 
     /// Writes the image of the table into a memory of so many words.
-    pub(crate) fn write(&self, heap: Global, room: usize) -> Result<Answer, AllocError>
+    pub(crate) fn write(&self, room: usize) -> Result<Answer, AllocError>
         ensures { IfOk result (λ answer. told answer ≡ write_told (stage_of self.now).table.nodes room) }
     {
         let size = useful(&self.sequencer.table().nodes, room);
-        let mut words = vec![in heap; 0; size]?;
+        let mut words = vec![in self.heap; 0; size]?;
         match self.sequencer.write(words.as_mut_slice()) {
             Ok(count) => {
                 words.truncate(count);
                 Ok(Answer::Wrote(words))
             }
-            Err(fault) => Ok(refused_plainly(heap, Name::Write, fault)),
+            Err(fault) => Ok(refused_plainly(self.heap, Name::Write, fault)),
         }
     }
 }

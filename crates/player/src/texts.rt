@@ -1,4 +1,5 @@
-//! How lanes, waiting entries, steps and messages are written.
+//! How lanes, waiting entries, steps and messages are written. Each text is a wrapper of its own, since its words stand in what is printed
+//! and not where its type is declared.
 ghost use Rattle.std.specs.Prelude.{take, Some};
 ghost use Rattle.std.specs.Fmt.{WritesOnOk};
 ghost use Rattle.rows.specs.Rows.{waiting};
