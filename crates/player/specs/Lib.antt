@@ -1,3 +1,4 @@
+pub mod Alone
 pub mod Memory
 pub mod Permits
 pub mod Playing

@@ -1,7 +1,8 @@
 //! A player loads images and writes them.
-ghost use Rattle.std.specs.Prelude.{◌≡◌, ◌≤◌, min, length, IfOk};
+ghost use Rattle.std.specs.Prelude.{◌≡◌, ◌≤◌, min, length, None, IfOk};
 ghost use Rattle.image.specs.Nodes.{image_words};
 ghost use Rattle.script.specs.Calls.{load as load_said};
+ghost use Rattle.player.specs.Alone.{LoadsAlone};
 ghost use Rattle.player.specs.Playing.{Plays, write_told};
 ghost use Rattle.player.specs.Stages.{stage_of};
 ghost use Rattle.player.specs.Told.{told};
@@ -26,9 +27,10 @@ fn useful(nodes: &[Option<Node>; 512], room: usize) -> usize
 }
 
 impl<O: Outlet> Player<O> {
-    /// Loads the image of the words.
+    /// Loads the image of the words. Where no check is open, that is the table's own load.
     pub(crate) fn load(&mut self, words: &[u32]) -> Answer
-        ensures { Plays O.Outlet.waits O.Outlet.total O.Outlet.capacity (stage_of self.old) (load_said words.now) (told result) (stage_of self.new) }
+        ensures alone { (stage_of self.old).table.check ≡ None → LoadsAlone (stage_of self.old).table words.now (told result) (stage_of self.new).table }
+        ensures exact { Plays O.Outlet.waits O.Outlet.total O.Outlet.capacity (stage_of self.old) (load_said words.now) (told result) (stage_of self.new) }
     {
         match self.sequencer.load(words) {
             Ok(nodes) => Answer::Loaded(nodes),

@@ -96,7 +96,7 @@ fn write_first<W: fmt::Write>(
 ) -> fmt::Result
     ensures { WritesOnOk W.Write.write_str_gives f.old result (entries_text (take count entries.now)) f.new }
 {
-    write_entries(f, &entries[0..entries.len().min(count)])
+    write_entries(f, &entries[..count.min(entries.len())])
 }
 
 /// The entries that wait in a row, the oldest first.
