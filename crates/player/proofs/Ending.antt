@@ -1,34 +1,37 @@
 -- The lines of a memory up to that of a place.
-use Rattle.std.proofs.Common.{◌≡◌, ℕ, suc, ◌+◌, ◌<◌, ◌≤◌, Bool, true, false, cond, eqb, List, [], ◌∷◌, ◌++◌, length, get_or, take, drop, IfOk, Ok, Err, Result, sym, ap, ◌∙◌, subst, append_assoc, append-nil, le_refl, arith, eq-eqb, ne_eqb}
-use Rattle.std.proofs.lemmas.List.{take_more, take_all, at_drop_more, at_drop_all}
+use Rattle.std.proofs.Common.{◌≡◌, ℕ, suc, ◌+◌, ◌<◌, true, false, cond, not, eqb, ltb, List, [], ◌∷◌, ◌++◌, length, take, position, IfOk, Some, None, Ok, Err, Result, sym, refl, ap, ◌∙◌, subst, le_refl, arith, eq-eqb, ne_eqb}
+use Rattle.std.specs.List.{position_or_len}
+use Rattle.std.proofs.lemmas.List.{take_all}
+use Rattle.std.proofs.lemmas.Bool.{cond_both, ltb-false}
 use Rattle.reach.specs.declared.line.Line.{Line}
 use Rattle.reach.specs.Chains.{line_at, Ends}
 use Rattle.reach.specs.Scenes.{Scene}
-use Rattle.player.specs.Memory.{blank_line, until}
+use Rattle.player.specs.Memory.{until}
 
-module _ (place i : ℕ) (memory : List Line) (inv : until place memory ≡ take i memory ++ until place (drop i memory)) where
-  module _ (more : i < length memory) where
-    here : (b : Bool) → eqb (get_or memory i blank_line).place place ≡ b
-        → until place memory ≡ take i memory ++ cond b (get_or memory i blank_line ∷ []) (get_or memory i blank_line ∷ until place (drop (i + 1) memory))
-    here b e =
-        let line = get_or memory i blank_line in
-        inv ∙ ap (λ ls. take i memory ++ ls) (at_drop_more (until place) memory i blank_line more ∙ ap (λ b. cond b (line ∷ []) (line ∷ until place (drop (i + 1) memory))) e)
+-- the lines up to that of the place: those before the first of the place, and that one
+up_to : (place : ℕ) (ls : List Line) → until place ls ≡ take (suc (position_or_len (λ (l : Line). eqb l.place place) ls)) ls
+up_to place [] = refl
+up_to place (l ∷ ls) =
+    let rest = position_or_len (λ (l : Line). eqb l.place place) ls in
+    let one : 1 + rest ≡ suc rest = omega arith in
+    let more : l ∷ until place ls ≡ l ∷ take (1 + rest) ls = ap (λ ls. l ∷ ls) (up_to place ls ∙ ap (λ n. take n ls) (sym one)) in
+    elim (eqb l.place place) as (λ b. cond b (l ∷ []) (l ∷ until place ls) ≡ take (suc (cond (not b) (1 + rest) 0)) (l ∷ ls)) [ true ↦ refl | false ↦ more ]
 
-    -- the line of the place
-    pub found : eqb (get_or memory i blank_line).place place ≡ true → take (i + 1) memory ≡ until place memory
-    found e = take_more memory i blank_line more ∙ sym (here true e)
+module _ (place : ℕ) (ls : List Line) where
+  pub found : (i : ℕ) → Some i ≡ position (λ (l : Line). eqb l.place place) ls → take (i + 1) ls ≡ until place ls
+  found i e =
+      let n = position_or_len (λ (l : Line). eqb l.place place) ls in
+      cond_both (ltb n (length ls)) (Some n) None (λ o. Some i ≡ o → take (i + 1) ls ≡ until place ls)
+      (λ _ is. let same : i + 1 ≡ suc n = grind arith in ap (λ n. take n ls) same ∙ sym (up_to place ls))
+      (λ _ is. absurd (grind arith)) e
 
-    -- any other line
-    pub passed : eqb (get_or memory i blank_line).place place ≡ false → until place memory ≡ take (i + 1) memory ++ until place (drop (i + 1) memory)
-    passed e =
-        here false e ∙ sym (append_assoc (take i memory) (get_or memory i blank_line ∷ []) (until place (drop (i + 1) memory)))
-        ∙ ap (λ ls. ls ++ until place (drop (i + 1) memory)) (sym (take_more memory i blank_line more))
-
-  -- no line is left
-  pub through : length memory ≤ i → take (length memory) memory ≡ until place memory
-  through all =
-      take_all (length memory) memory (le_refl (length memory))
-      ∙ sym (take_all i memory all) ∙ sym (inv ∙ ap (λ ls. take i memory ++ ls) (at_drop_all (until place) memory i all) ∙ append-nil (take i memory))
+  -- no line is of the place
+  pub through : None ≡ position (λ (l : Line). eqb l.place place) ls → take (length ls) ls ≡ until place ls
+  through e =
+      let n = position_or_len (λ (l : Line). eqb l.place place) ls in
+      cond_both (ltb n (length ls)) (Some n) None (λ o. None ≡ o → take (length ls) ls ≡ until place ls)
+      (λ _ is. absurd (grind arith))
+      (λ f _. let past = ltb-false n (length ls) f in take_all (length ls) ls (le_refl (length ls)) ∙ sym (take_all (suc n) ls (omega arith)) ∙ sym (up_to place ls)) e
 
 -- ### a chain that ends on the place
 

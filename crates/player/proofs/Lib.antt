@@ -1,5 +1,4 @@
 pub mod Ending
 pub mod Keeping
-pub mod Rows
 pub mod Spending
 pub mod Written

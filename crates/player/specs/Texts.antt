@@ -1,5 +1,5 @@
 -- How lanes, waiting entries, steps, messages and chains are written.
-use Rattle.std.specs.Prelude.{ℕ, cond, List, [], ◌∷◌, ◌++◌, Some, None, codes, decimal, Option}
+use Rattle.std.specs.Prelude.{ℕ, cond, List, ◌++◌, Some, None, codes, decimal, Option, flat_map}
 use Rattle.words.specs.declared.node.Entry.{Entry}
 use Rattle.words.specs.declared.node.Entry.TheVariants as by
 use Rattle.words.specs.declared.node.Order.{Order}
@@ -13,11 +13,6 @@ use Rattle.reach.specs.declared.line.Letter.TheVariants as letter
 use Rattle.reach.specs.declared.line.Line.{Line}
 use Rattle.steps.specs.declared.answer.Step.{Step}
 use Rattle.steps.specs.declared.answer.Step.TheVariants as came
-
--- one text after another
-abbrev pub each_text : {X : Type 0} → (X → List ℕ) → List X → List ℕ
-each_text text [] = []
-each_text text (x ∷ xs) = text x ++ each_text text xs
 
 -- what a lane is doing
 abbrev pub state_text : LaneState → List ℕ
@@ -41,7 +36,7 @@ entry_text (by.Order order) = cond order.lasting (lasting_text order) (order_tex
 
 -- entries, each behind a blank
 abbrev pub entries_text : List Entry → List ℕ
-entries_text = each_text (λ entry. codes " " ++ entry_text entry)
+entries_text = flat_map (λ entry. codes " " ++ entry_text entry)
 
 -- ### steps and messages
 
@@ -75,4 +70,4 @@ ground_text l = decimal l.place ++ codes " " ++ letter_text l.letter ++ codes " 
 
 -- each line of a chain on a line of its own, behind two blanks
 abbrev pub chain_text : List Line → List ℕ
-chain_text = each_text (λ line. codes "\n  " ++ ground_text line)
+chain_text = flat_map (λ line. codes "\n  " ++ ground_text line)

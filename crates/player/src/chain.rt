@@ -1,5 +1,5 @@
 //! Chains of grounds in a memory, and how they are written.
-ghost use Rattle.std.specs.Prelude.{◌≡◌, ◌≤◌, List, ◌++◌, length, take, IfOk, Some};
+ghost use Rattle.std.specs.Prelude.{◌≡◌, ◌==◌, ◌<◌, ◌≤◌, List, ◌++◌, length, take, position, IfOk, IfSome, Some};
 ghost use Rattle.std.specs.Fmt.{WritesOnOk};
 ghost use Rattle.reach.specs.declared.line.Line.{Line};
 ghost use Rattle.reach.specs.Chains.{Ends};
@@ -59,17 +59,23 @@ pub fn write_chain<W: fmt::Write>(f: &mut fmt::Formatter<W>, chain: &[Line]) -> 
     Ok(())
 }
 
+/// Where the first line of the place stands in a memory.
+fn line_of(memory: &[Line], place: u16) -> Option<usize>
+    ensures value { result ≡ position (λ (l : Line). l.place == place) memory.now }
+    ensures bound { IfSome result (λ i. i < length memory.now) }
+{
+    memory.iter().position(|line| line.place == place)
+}
+
 /// How many lines of a memory there are up to that of the place.
 fn lines_until(memory: &[Line], place: u16) -> usize
     ensures value { take result memory.now ≡ until place memory.now }
     ensures bound { result ≤ length memory.now }
 {
-    for (i, line) in memory.iter().enumerate() {
-        if line.place == place {
-            return i + 1;
-        }
+    match line_of(memory, place) {
+        Some(i) => i + 1,
+        None => memory.len(),
     }
-    memory.len()
 }
 
 /// The chain in a memory that ends on the place: the lines up to that of the place. Where a lawful chain that ends on the place

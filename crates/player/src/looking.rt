@@ -12,7 +12,7 @@ use crate::player::Player;
 use lanes::{Lane, LaneState};
 use outlets::Outlet;
 use reach::{View, to_place};
-use std::alloc::{AllocError, Global};
+use std::alloc::AllocError;
 use table::Rows;
 
 /// A lane that walks nowhere and has sent nothing.
@@ -23,10 +23,10 @@ const IDLE: Lane = Lane {
 
 impl<O: Outlet> Player<O> {
     /// Gives the chain memory so many lines.
-    pub(crate) fn set_memory(&mut self, heap: Global, lines: u32) -> Result<Answer, AllocError>
+    pub(crate) fn set_memory(&mut self, lines: u32) -> Result<Answer, AllocError>
         ensures { Played O.Outlet.meaning (stage_of self.old) (memory_said lines) result (stage_of self.new) }
     {
-        self.memory = vec![in heap; BLANK; lines as usize]?;
+        self.memory = vec![in self.heap; BLANK; lines as usize]?;
         Ok(Answer::Memory(lines))
     }
 
@@ -53,18 +53,14 @@ impl<O: Outlet> Player<O> {
     }
 
     /// Whether lanes can come to the place, with the chain that shows it.
-    pub(crate) fn reach(&mut self, heap: Global, place: u16) -> Result<Answer, AllocError>
+    pub(crate) fn reach(&mut self, place: u16) -> Result<Answer, AllocError>
         ensures { Played O.Outlet.meaning (stage_of self.old) (reach_said place) result (stage_of self.new) }
     {
         let table = self.sequencer.table();
-        let view = View {
-            nodes: &table.nodes,
-            rows: &table.rows,
-            lanes: &table.lanes,
-        };
+        let view = View::from(table);
         match to_place(&view, place, self.memory.as_mut_slice()) {
             None => Ok(Answer::OutOfReach),
-            Some(place) => Ok(Answer::InReach(chain_to(heap, self.memory.as_slice(), place)?)),
+            Some(place) => Ok(Answer::InReach(chain_to(self.heap, self.memory.as_slice(), place)?)),
         }
     }
 }

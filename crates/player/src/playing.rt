@@ -15,10 +15,11 @@ use std::alloc::{AllocError, Global};
 
 impl<O: Outlet> Player<O> {
     /// A player with a cleared table.
-    pub fn new(outlet: O, memory: Vec<Line>) -> Player<O>
+    pub fn new(heap: Global, outlet: O, memory: Vec<Line>) -> Player<O>
         ensures { (result.sequencer.table ≡ cleared) × ((result.sequencer.outlet ≡ outlet) × (result.memory ≡ memory)) }
     {
         Player {
+            heap,
             sequencer: Sequencer::new(outlet),
             memory,
             permit: None,
@@ -26,25 +27,25 @@ impl<O: Outlet> Player<O> {
     }
 
     /// Makes a call.
-    pub fn play(&mut self, heap: Global, call: Call) -> Result<Answer, AllocError>
+    pub fn play(&mut self, call: Call) -> Result<Answer, AllocError>
         ensures { Played O.Outlet.meaning (stage_of self.old) (said call) result (stage_of self.new) }
     {
         match call {
-            Call::Memory(lines) => self.set_memory(heap, lines),
-            Call::Load(words) => Ok(self.load(heap, words.as_slice())),
-            Call::Write(room) => self.write(heap, room as usize),
-            Call::Start { lane, place, tick } => self.start(heap, lane, place, tick),
-            Call::Hold(lane) => Ok(self.hold(heap, lane)),
-            Call::Resume(lane) => Ok(self.resume(heap, lane)),
-            Call::Abort(lane) => Ok(self.abort(heap, lane)),
-            Call::Command { block, word } => self.command(heap, block, word),
-            Call::Check(pattern) => self.check(heap, pattern),
+            Call::Memory(lines) => self.set_memory(lines),
+            Call::Load(words) => Ok(self.load(words.as_slice())),
+            Call::Write(room) => self.write(room as usize),
+            Call::Start { lane, place, tick } => self.start(lane, place, tick),
+            Call::Hold(lane) => Ok(self.hold(lane)),
+            Call::Resume(lane) => Ok(self.resume(lane)),
+            Call::Abort(lane) => Ok(self.abort(lane)),
+            Call::Command { block, word } => self.command(block, word),
+            Call::Check(pattern) => self.check(pattern),
             Call::Remove => Ok(self.remove()),
             Call::Release => Ok(self.release()),
-            Call::Step(lane) => Ok(self.step(heap, lane)),
+            Call::Step(lane) => Ok(self.step(lane)),
             Call::Take => Ok(self.take()),
             Call::Lane(number) => Ok(self.lane(number)),
-            Call::Reach(place) => self.reach(heap, place),
+            Call::Reach(place) => self.reach(place),
             Call::Row(block) => Ok(self.rows(block)),
         }
     }

@@ -11,11 +11,11 @@ use crate::player::Player;
 use crate::refusing::refused_with;
 use outlets::Outlet;
 use script::Name;
-use std::alloc::{AllocError, Global};
+use std::alloc::AllocError;
 
 impl<O: Outlet> Player<O> {
     /// Asks for a permit to remove the pattern, and keeps it.
-    pub(crate) fn check(&mut self, heap: Global, pattern: u32) -> Result<Answer, AllocError>
+    pub(crate) fn check(&mut self, pattern: u32) -> Result<Answer, AllocError>
         ensures { Played O.Outlet.meaning (stage_of self.old) (check_said pattern) result (stage_of self.new) }
     {
         let memory = self.memory.as_mut_slice();
@@ -25,7 +25,7 @@ impl<O: Outlet> Player<O> {
                 self.permit = Some(permit);
                 Ok(Answer::Granted(granted))
             }
-            Err(fault) => refused_with(heap, Name::Check, fault, self.memory.as_slice()),
+            Err(fault) => refused_with(self.heap, Name::Check, fault, self.memory.as_slice()),
         }
     }
 
@@ -62,6 +62,7 @@ impl<O: Outlet + Drop> Player<O> {
         ensures { mapped told result ≡ end_told (stage_of self).table.check }
     {
         let Player {
+            heap: _,
             mut sequencer,
             memory: _,
             permit,

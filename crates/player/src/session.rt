@@ -1,8 +1,15 @@
 //! A session: a script that is played to its end.
+ghost use Rattle.std.specs.Prelude.{IfOk};
+ghost use Rattle.std.specs.Fn.{FnReturnsAt};
+ghost use Rattle.script.specs.Calls.{call_in};
+ghost use Rattle.script.specs.Parts.{line_text, parts_of};
+ghost use Rattle.player.specs.Sessions.{Understood};
+
 use crate::chain::BLANK;
 use crate::player::Player;
 use outlets::{EarliestDue, FirstInOutlet, Message, Outlet};
-use script::{Choice, Numbered, OutletKind, Script, chosen_by, parse};
+use script::{Call, Choice, Numbered, OutletKind, Script, chosen_by, parse};
+use std::alloc::{AllocError, Global};
 use std::io;
 use std::io::{BufRead, BufReader};
 
@@ -22,10 +29,36 @@ const VACANT: Message = Message {
     due: 0,
 };
 
+/// The call on a line, if the line says one and it is understood.
+fn understood<F: Fn(&Call) -> bool>(
+    heap: Global,
+    line: &Numbered,
+    understands: &F,
+) -> Result<Option<Call>, AllocError>
+    requires { F.IsAlwaysCallable understands.now }
+    ensures { IfOk result (λ o. Understood (λ call is. FnReturnsAt F.Fn understands.now call is) (call_in (parts_of (line_text line.now.bytes.items))) o) }
+{
+    let Some(call) = parse(heap, line.text())? else {
+        return Ok(None);
+    };
+    if understands(&call) {
+        Ok(Some(call))
+    } else {
+        Ok(None)
+    }
+}
+
 /// Plays the call on a line, and writes its answer.
-fn play<O: Outlet>(rt: &HostRuntime, player: &mut Player<O>, line: &Numbered) -> io::Result<()> {
-    match parse(rt.alloc(), line.text())? {
-        Some(call) => rt.println(player.play(rt.alloc(), call)?),
+fn play<O: Outlet, F: Fn(&Call) -> bool>(
+    rt: &HostRuntime,
+    player: &mut Player<O>,
+    line: &Numbered,
+    understands: &F,
+) -> io::Result<()>
+    requires { F.IsAlwaysCallable understands.now }
+{
+    match understood(rt.alloc(), line, understands)? {
+        Some(call) => rt.println(player.play(call)?),
         None => {
             let number = line.number;
             println!(rt; "? {number}")
@@ -34,18 +67,21 @@ fn play<O: Outlet>(rt: &HostRuntime, player: &mut Player<O>, line: &Numbered) ->
 }
 
 /// Plays a script: its first call, if that did not choose the outlet, and then the rest.
-fn play_all<R: BufRead, O: Outlet>(
+fn play_all<R: BufRead, O: Outlet, F: Fn(&Call) -> bool>(
     rt: &HostRuntime,
     script: &mut Script<R>,
     first: Option<Numbered>,
     player: &mut Player<O>,
-) -> io::Result<()> {
+    understands: &F,
+) -> io::Result<()>
+    requires { F.IsAlwaysCallable understands.now }
+{
     if let Some(line) = first {
-        play(rt, player, &line)?;
+        play(rt, player, &line, understands)?;
     }
     for _ in 0..u64::MAX {
         match script.call_line(rt.alloc())? {
-            Some(line) => play(rt, player, &line)?,
+            Some(line) => play(rt, player, &line, understands)?,
             None => return Ok(()),
         }
     }
@@ -53,15 +89,18 @@ fn play_all<R: BufRead, O: Outlet>(
 }
 
 /// Plays a script over an outlet. The player is finished also where the script could not be played to its end.
-fn play_over<R: BufRead, O: Outlet + Drop>(
+fn play_over<R: BufRead, O: Outlet + Drop, F: Fn(&Call) -> bool>(
     rt: &HostRuntime,
     script: &mut Script<R>,
     first: Option<Numbered>,
     outlet: O,
-) -> io::Result<()> {
+    understands: &F,
+) -> io::Result<()>
+    requires { F.IsAlwaysCallable understands.now }
+{
     let memory = vec![in rt.alloc(); BLANK; LINES]?;
-    let mut player = Player::new(outlet, memory);
-    let played = play_all(rt, script, first, &mut player);
+    let mut player = Player::new(rt.alloc(), outlet, memory);
+    let played = play_all(rt, script, first, &mut player, understands);
     let ended = match player.finish() {
         Some(answer) => rt.println(answer),
         None => Ok(()),
@@ -70,22 +109,32 @@ fn play_over<R: BufRead, O: Outlet + Drop>(
 }
 
 /// Plays a script over the outlet that is chosen.
-fn play_chosen<R: BufRead>(
+fn play_chosen<R: BufRead, F: Fn(&Call) -> bool>(
     rt: &HostRuntime,
     script: &mut Script<R>,
     first: Option<Numbered>,
     chosen: Choice,
-) -> io::Result<()> {
+    understands: &F,
+) -> io::Result<()>
+    requires { F.IsAlwaysCallable understands.now }
+{
     let mut slots = vec![in rt.alloc(); VACANT; chosen.capacity as usize]?;
     let slots = slots.as_mut_slice();
     match chosen.kind {
-        OutletKind::FirstIn => play_over(rt, script, first, FirstInOutlet::new(slots)),
-        OutletKind::EarliestDue => play_over(rt, script, first, EarliestDue::new(slots)),
+        OutletKind::FirstIn => {
+            play_over(rt, script, first, FirstInOutlet::new(slots), understands)
+        }
+        OutletKind::EarliestDue => {
+            play_over(rt, script, first, EarliestDue::new(slots), understands)
+        }
     }
 }
 
-/// Plays the script on the standard input, a call on each line, and writes a line for each call.
-pub fn rehearse(rt: &HostRuntime) -> io::Result<()> {
+/// Plays the script on the standard input, a call on each line, and writes a line for each call. A call that is not understood is told
+/// as a line that says no call.
+pub fn rehearse_some<F: Fn(&Call) -> bool>(rt: &HostRuntime, understands: F) -> io::Result<()>
+    requires { F.IsAlwaysCallable understands }
+{
     let mut script = Script::new(BufReader::new(rt.alloc(), rt.stdin())?);
     let Some(first) = script.call_line(rt.alloc())? else {
         return Ok(());
@@ -93,8 +142,13 @@ pub fn rehearse(rt: &HostRuntime) -> io::Result<()> {
     match chosen_by(first.text()) {
         Some(chosen) => {
             rt.println(chosen)?;
-            play_chosen(rt, &mut script, None, chosen)
+            play_chosen(rt, &mut script, None, chosen, &understands)
         }
-        None => play_chosen(rt, &mut script, Some(first), PLAIN),
+        None => play_chosen(rt, &mut script, Some(first), PLAIN, &understands),
     }
+}
+
+/// Plays the script on the standard input, a call on each line, and writes a line for each call.
+pub fn rehearse(rt: &HostRuntime) -> io::Result<()> {
+    rehearse_some(rt, |_| true)
 }

@@ -1,4 +1,5 @@
-//! How lanes, waiting entries, steps and messages are written.
+//! How lanes, waiting entries, steps and messages are written. Each text is a wrapper of its own, since its words stand in what is printed
+//! and not where its type is declared.
 ghost use Rattle.std.specs.Prelude.{take, Some};
 ghost use Rattle.std.specs.Fmt.{WritesOnOk};
 ghost use Rattle.rows.specs.Rows.{waiting};
@@ -95,7 +96,7 @@ fn write_first<W: fmt::Write>(
 ) -> fmt::Result
     ensures { WritesOnOk W.Write.write_str_gives f.old result (entries_text (take count entries.now)) f.new }
 {
-    write_entries(f, &entries[0..entries.len().min(count)])
+    write_entries(f, &entries[..count.min(entries.len())])
 }
 
 /// The entries that wait in a row, the oldest first.

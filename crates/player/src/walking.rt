@@ -9,66 +9,55 @@ use crate::player::Player;
 use crate::refusing::{judged, plain, refused_plainly};
 use outlets::Outlet;
 use script::Name;
-use std::alloc::{AllocError, Global};
+use std::alloc::AllocError;
 
 impl<O: Outlet> Player<O> {
     /// Lets a lane run from a place and a tick on.
-    pub(crate) fn start(
-        &mut self,
-        heap: Global,
-        lane: u32,
-        place: u32,
-        tick: u64,
-    ) -> Result<Answer, AllocError>
+    pub(crate) fn start(&mut self, lane: u32, place: u32, tick: u64) -> Result<Answer, AllocError>
         ensures { Played O.Outlet.meaning (stage_of self.old) (start_said lane place tick) result (stage_of self.new) }
     {
         let memory = self.memory.as_mut_slice();
         let answer = self.sequencer.start(lane, place, tick, memory);
-        judged(heap, Name::Start, answer, self.memory.as_slice())
+        judged(self.heap, Name::Start, answer, self.memory.as_slice())
     }
 
     /// Stops a lane where it is.
-    pub(crate) fn hold(&mut self, heap: Global, lane: u32) -> Answer
+    pub(crate) fn hold(&mut self, lane: u32) -> Answer
         ensures { Plays O.Outlet.meaning (stage_of self.old) (hold_said lane) (told result) (stage_of self.new) }
     {
-        plain(heap, Name::Hold, self.sequencer.hold(lane))
+        plain(self.heap, Name::Hold, self.sequencer.hold(lane))
     }
 
     /// Lets a held lane run on.
-    pub(crate) fn resume(&mut self, heap: Global, lane: u32) -> Answer
+    pub(crate) fn resume(&mut self, lane: u32) -> Answer
         ensures { Plays O.Outlet.meaning (stage_of self.old) (resume_said lane) (told result) (stage_of self.new) }
     {
-        plain(heap, Name::Resume, self.sequencer.resume(lane))
+        plain(self.heap, Name::Resume, self.sequencer.resume(lane))
     }
 
     /// Makes a lane idle.
-    pub(crate) fn abort(&mut self, heap: Global, lane: u32) -> Answer
+    pub(crate) fn abort(&mut self, lane: u32) -> Answer
         ensures { Plays O.Outlet.meaning (stage_of self.old) (abort_said lane) (told result) (stage_of self.new) }
     {
-        plain(heap, Name::Abort, self.sequencer.abort(lane))
+        plain(self.heap, Name::Abort, self.sequencer.abort(lane))
     }
 
     /// Gives an order or a pass, as a word, to a block.
-    pub(crate) fn command(
-        &mut self,
-        heap: Global,
-        block: u32,
-        word: u32,
-    ) -> Result<Answer, AllocError>
+    pub(crate) fn command(&mut self, block: u32, word: u32) -> Result<Answer, AllocError>
         ensures { Played O.Outlet.meaning (stage_of self.old) (command_said block word) result (stage_of self.new) }
     {
         let memory = self.memory.as_mut_slice();
         let answer = self.sequencer.command(block, word, memory);
-        judged(heap, Name::Command, answer, self.memory.as_slice())
+        judged(self.heap, Name::Command, answer, self.memory.as_slice())
     }
 
     /// Makes one step of a lane.
-    pub(crate) fn step(&mut self, heap: Global, lane: u32) -> Answer
+    pub(crate) fn step(&mut self, lane: u32) -> Answer
         ensures { Plays O.Outlet.meaning (stage_of self.old) (step_said lane) (told result) (stage_of self.new) }
     {
         match self.sequencer.step(lane) {
             Ok(step) => Answer::Stepped(step),
-            Err(fault) => refused_plainly(heap, Name::Step, fault),
+            Err(fault) => refused_plainly(self.heap, Name::Step, fault),
         }
     }
 

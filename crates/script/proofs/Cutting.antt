@@ -1,8 +1,11 @@
 -- The first part of a line, cut off.
-use Rattle.std.proofs.Common.{◌≡◌, ℕ, suc, ◌-◌, ◌<◌, Bool, true, false, cond, List, [], ◌∷◌, length, take, drop, sym, refl, ap, ◌∙◌, subst, ⊎_elim, arith}
+use Rattle.std.proofs.Common.{◌≡◌, ℕ, suc, ◌-◌, ◌<◌, Bool, true, false, cond, List, [], ◌∷◌, length, take, drop, sym, refl, ap, ◌∙◌, subst, ⊎_elim, arith, ◌+◌, ◌≤◌, not, ltb, Some, None, unwrap_or, position}
 use mathlib.Core.Bool.{beq}
 use Rattle.std.proofs.lemmas.List.{take_rest}
-use Rattle.std.proofs.lemmas.Bool.{cases_Bool}
+use Rattle.std.proofs.lemmas.Bool.{cases_Bool, cond_both, ltb-false}
+use Rattle.std.proofs.lemmas.List.Recursion.{is_position_or_len}
+use Rattle.std.proofs.lemmas.List.Sums.{prefix_len-le-length}
+use Rattle.std.specs.List.{position_or_len}
 use Rattle.script.specs.Parts.{blank, apart, lengthened, parts_of, leading}
 
 module _ (byte : ℕ) (line : List ℕ) where
@@ -14,6 +17,20 @@ module _ (byte : ℕ) (line : List ℕ) where
 
   leading_is : (b blanks : Bool) → blank byte ≡ b → leading blanks (byte ∷ line) ≡ cond (beq b blanks) (suc (leading blanks line)) 0
   leading_is b blanks e = ap (λ b. cond (beq b blanks) (suc (leading blanks line)) 0) e
+
+turned : (b : Bool) (n : ℕ) → cond b (suc n) 0 ≡ cond (not b) 0 (1 + n)
+turned true n = omega arith
+turned false n = refl
+
+found_or : (n all : ℕ) → n ≤ all → unwrap_or (cond (ltb n all) (Some n) None) all ≡ n
+found_or n all few = cond_both (ltb n all) (Some n) None (λ o. unwrap_or o all ≡ n) (λ _. refl) (λ f. omega (arith, ltb-false n all f))
+
+-- as many bytes lead as stand before the first of the other kind
+pub leads : (blanks : Bool) (line : List ℕ) → unwrap_or (position (λ byte. not (beq (blank byte) blanks)) line) (length line) ≡ leading blanks line
+leads blanks line =
+    let test = λ (byte : ℕ). not (beq (blank byte) blanks) in
+    let same : leading blanks line ≡ position_or_len test line = is_position_or_len (leading blanks) test refl (λ byte line. turned (beq (blank byte) blanks) (leading blanks line)) line in
+    found_or (position_or_len test line) (length line) (prefix_len-le-length _ line) ∙ sym same
 
 -- blanks at the front do not matter
 past_blanks : (line : List ℕ) → parts_of (drop (leading true line) line) ≡ parts_of line

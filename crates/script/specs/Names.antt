@@ -1,5 +1,5 @@
 -- The names of the calls.
-use Rattle.std.specs.Prelude.{ℕ, cond, List, [], ◌∷◌, Some, None, codes, Option}
+use Rattle.std.specs.Prelude.{ℕ, List, [], ◌∷◌, codes, Option, find}
 use Rattle.std.specs.Str.{bytes_eq}
 use Rattle.script.specs.declared.name.Name.{Name}
 use Rattle.script.specs.declared.name.Name.TheVariants.{Memory, Load, Write, Start, Hold, Resume, Abort, Command, Check, Remove, Release, Step, Take, Lane, Reach, Row}
@@ -24,8 +24,7 @@ name_text Row = codes "row"
 
 -- the first of the names that is written so
 abbrev pub named : List Name → List ℕ → Option Name
-named [] part = None
-named (name ∷ names) part = cond (bytes_eq part (name_text name)) (Some name) (named names part)
+named names part = find (λ name. bytes_eq part (name_text name)) names
 
 abbrev pub name_in : List ℕ → Option Name
 name_in part = named (Memory ∷ Load ∷ Write ∷ Start ∷ Hold ∷ Resume ∷ Abort ∷ Command ∷ Check ∷ Remove ∷ Release ∷ Step ∷ Take ∷ Lane ∷ Reach ∷ Row ∷ []) part

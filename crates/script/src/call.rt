@@ -108,12 +108,7 @@ pub fn below(parts: Parts, limit: u32) -> Option<u32>
 fn place(parts: Parts) -> Option<u16>
     ensures { result ≡ below_in 512 (parts_of parts.entry.rest.now) }
 {
-    let number = argument(parts)?;
-    if number < PLACES {
-        Some(number as u16)
-    } else {
-        None
-    }
+    u16::try_from(below(parts, PLACES)?).ok()
 }
 
 /// The call, where no part is left.

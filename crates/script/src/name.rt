@@ -90,12 +90,10 @@ fn name_text(name: Name) -> &'static str
 fn find(names: &[Name], part: &[u8]) -> Option<Name>
     ensures { result ≡ named names.now part.now }
 {
-    for name in names {
-        if is_same(part, name_text(*name).as_bytes()) {
-            return Some(*name);
-        }
-    }
-    None
+    names
+        .iter()
+        .copied()
+        .find(|name| is_same(part, name_text(*name).as_bytes()))
 }
 
 /// The name that is written so, if it is one.

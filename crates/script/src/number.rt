@@ -51,11 +51,7 @@ fn number(word: &[u8], base: u64) -> Option<u64>
 fn short(value: u64) -> Option<u32>
     ensures { result ≡ fitting 32 value }
 {
-    if value <= u32::MAX as u64 {
-        Some(value as u32)
-    } else {
-        None
-    }
+    u32::try_from(value).ok()
 }
 
 /// The value of digits to the base, of which there is at least one, where it fits 32 bits.

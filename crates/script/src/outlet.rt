@@ -28,12 +28,9 @@ pub struct Choice {
 fn kind(part: &[u8]) -> Option<OutletKind>
     ensures { result ≡ kind_in part.now }
 {
-    let first_in = is_same(part, b"first-in");
-    let earliest_due = is_same(part, b"earliest-due");
-    if first_in {
-        return Some(OutletKind::FirstIn);
-    }
-    if earliest_due {
+    if is_same(part, b"first-in") {
+        Some(OutletKind::FirstIn)
+    } else if is_same(part, b"earliest-due") {
         Some(OutletKind::EarliestDue)
     } else {
         None

@@ -1,5 +1,6 @@
 //! A line of a script, and its parts between spaces and tabs.
-ghost use Rattle.std.specs.Prelude.{◌≡◌, ◌≤◌, [], ◌∷◌, length, MatchOption};
+ghost use Rattle.std.specs.Prelude.{◌≡◌, ◌≤◌, not, [], ◌∷◌, length, position, MatchOption};
+ghost use Rattle.std.specs.Bool.{beq};
 ghost use Rattle.std.specs.Str.{bytes_eq};
 ghost use Rattle.script.specs.Parts.{line_text, without_last, blank, leading, parts_of};
 ghost use Rattle.std.specs.Iterator.{at_most};
@@ -37,17 +38,19 @@ fn is_blank(byte: u8) -> bool
     byte == b' ' || byte == b'\t'
 }
 
+/// Where the first byte stands that is not blank, or the first that is.
+fn first_other(bytes: &[u8], blanks: bool) -> Option<usize>
+    ensures { result ≡ position (λ byte. not (beq (blank byte) blanks)) bytes.now }
+{
+    bytes.iter().position(|b| is_blank(*b) != blanks)
+}
+
 /// How many bytes at the front are blank, or how many are not.
 fn leading(bytes: &[u8], blanks: bool) -> usize
     ensures value { result ≡ leading blanks bytes.now }
     ensures bound { result ≤ length bytes.now }
 {
-    for (i, b) in bytes.iter().enumerate() {
-        if is_blank(*b) != blanks {
-            return i;
-        }
-    }
-    bytes.len()
+    first_other(bytes, blanks).unwrap_or(bytes.len())
 }
 
 /// Whether a part has these bytes.

@@ -1,9 +1,0 @@
-use Rattle.std.proofs.Common.{rules}
-use Rattle.std.proofs.lemmas.Slice.Eq.{slice_eq-Decides, bytes_eq-Decides}
-use Rattle.script.proofs.parts.is_same.Goals as goal
-use Rattle.std.proofs.lemmas.Bool.Decides.{Decides-eqb}
-
-pub returns : goal.returns
-returns c =
-    let same = slice_eq-Decides Decides-eqb c.args.part.now c.args.name.now c.eq.result c.eq.ensures in
-    search (rules, bytes_eq-Decides)
