@@ -13,7 +13,6 @@ use lanes::{Lane, LaneState};
 use outlets::Outlet;
 use reach::{View, to_place};
 use std::alloc::AllocError;
-use table::Rows;
 
 /// A lane that walks nowhere and has sent nothing.
 const IDLE: Lane = Lane {
@@ -43,12 +42,7 @@ impl<O: Outlet> Player<O> {
     pub(crate) fn rows(&self, block: u32) -> Answer
         ensures { told result ≡ rows_told block (rows_at (stage_of self.now).table block) }
     {
-        let table = self.sequencer.table();
-        let rows = table
-            .rows
-            .get(block as usize)
-            .copied()
-            .unwrap_or(Rows::empty());
+        let rows = self.sequencer.table().rows_at(block as usize);
         Answer::Rows(block, rows)
     }
 
