@@ -8,7 +8,7 @@ use lanes::Lane;
 use readout::layer_text;
 use std::fmt;
 use table::{Fault, Rows};
-use words::Layer;
+use words::{Layer, Reason};
 
 /// Why a call was refused, as the panel tells it.
 #[derive(Clone, Copy)]
