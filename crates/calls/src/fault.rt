@@ -6,7 +6,7 @@ ghost use Rattle.calls.specs.declared.fault.Fault.TheVariants.{Below, Memory};
 ghost use Rattle.calls.specs.Faults.{number_of, layer_of, place_of};
 
 use image::TooShort;
-use words::Layer;
+use words::{Layer, Reason};
 
 /// Why a call is refused.
 #[derive(Clone, Copy)]
@@ -29,11 +29,15 @@ pub enum Fault {
     Permit(u8),
 }
 
-impl Fault {
+impl Reason for Fault {
+    ghost number_of = { number_of };
+
+    ghost layer_of = { layer_of };
+
+    ghost place_of = { place_of };
+
     /// The number that the panel shows for the fault.
-    pub fn number(self) -> u8
-        ensures { result ≡ number_of self }
-    {
+    fn number(self) -> u8 {
         match self {
             Fault::Range(_) => 1,
             Fault::Memory(_) => 2,
@@ -47,9 +51,7 @@ impl Fault {
     }
 
     /// The layer that the panel shows for the fault.
-    pub fn layer(self) -> Layer
-        ensures { result ≡ layer_of self }
-    {
+    fn layer(self) -> Layer {
         match self {
             Fault::Below(fault) => fault.layer(),
             _ => Layer::Call,
@@ -57,9 +59,7 @@ impl Fault {
     }
 
     /// The place that the panel shows for the fault: an argument, a size, a pattern, a lane, a place or a position.
-    pub fn place(self) -> usize
-        ensures { result ≡ place_of self }
-    {
+    fn place(self) -> usize {
         match self {
             Fault::Range(argument) => argument as usize,
             Fault::Memory(needed) => needed,

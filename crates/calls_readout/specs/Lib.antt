@@ -1,4 +1,1 @@
-pub mod Bytes
-pub mod Layers
-pub mod Lines
 pub mod Shown

@@ -1,12 +1,20 @@
-//! What the console reads in and shows: bytes packed into words, and the line that tells how an image was judged.
+//! What the panel shows for the bytes of an image that is loaded by a call.
 #![tactic(auto)]
 
-mod bytes;
-mod judging;
-mod layer;
-mod line;
+ghost use Rattle.calls_readout.specs.Shown.{Answers, Shown};
 
-pub use bytes::pack;
-pub use judging::judged;
-pub use layer::layer_text;
-pub use line::Line;
+use calls::Fault;
+use readout::{Line, shown};
+use table::Table;
+
+/// The panel's line for the image that the bytes make, as a cleared table judges it.
+pub fn judged(bytes: &[u8]) -> Line
+    ensures { Shown bytes.now result }
+{
+    shown(
+        bytes,
+        |words: &[u32]| -> Result<usize, Fault>
+            ensures { Answers words.now result }
+        { calls::load(&mut Table::cleared(), words) },
+    )
+}

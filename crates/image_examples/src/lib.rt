@@ -6,7 +6,7 @@ mod examples {
     use image::{read, write};
     use std::process::Abort;
     use std::test::Fail;
-    use words::{Alternatives, Body, Exit, Node};
+    use words::{Alternatives, Body, Exit, Node, Reason};
 
     // The words are accepted as an image of so many nodes.
     fn accepted(rt: &impl Abort, words: &[u32], nodes: usize) -> Result<(), Fail> {

@@ -1,43 +1,25 @@
 //! The panel: judges an image from the standard input, and writes the line that tells how it was judged.
 #![tactic(auto)]
 
-ghost use Rattle.std.specs.Prelude.{ℕ, ◌≤◌, length, IfOk};
-ghost use Rattle.panel.specs.Shown.{Shown};
+ghost use Rattle.panel.specs.Shown.{Answers, Shown};
 
-use readout::Line;
+use readout::{Line, fill, shown};
 use std::io;
-use std::io::Read;
-use table::Table;
-
-/// How many words of an image are judged at most.
-const WORDS: usize = 4096;
+use table::{Fault, Table};
 
 /// How many bytes of the input are read at most: those of 4,096 words.
 const BYTES: usize = 16384;
-
-/// Reads into `bytes` until the input ends or there is no more room, and says how many bytes came.
-fn fill(input: &mut impl Read, bytes: &mut [u8]) -> io::Result<usize>
-    ensures { IfOk result (λ n. n ≤ length bytes.old) }
-{
-    let mut filled = 0;
-    while filled < bytes.len() {
-        let more = input.read(&mut bytes[filled..])?;
-        if more == 0 {
-            break;
-        }
-        filled += more;
-    }
-    Ok(filled)
-}
 
 /// The line for the image that the bytes make, as a cleared table judges it.
 fn judged(bytes: &[u8]) -> Line
     ensures { Shown bytes.now result }
 {
-    let mut words = [0; WORDS];
-    let count = readout::pack(bytes, &mut words);
-    let mut table = Table::cleared();
-    Line::judged(table.load(&words[0..count]))
+    shown(
+        bytes,
+        |words: &[u32]| -> Result<usize, Fault>
+            ensures { Answers words.now result }
+        { Table::cleared().load(words) },
+    )
 }
 
 fn main(rt: HostRuntime) -> io::Result<()> {

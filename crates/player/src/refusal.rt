@@ -6,7 +6,7 @@ ghost use Rattle.player.specs.Refusals.{refusal_of};
 use calls::Fault;
 use readout::layer_text;
 use std::fmt;
-use words::Layer;
+use words::{Layer, Reason};
 
 /// Why a call was refused, as the panel tells it.
 #[derive(Clone, Copy)]

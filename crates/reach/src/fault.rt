@@ -3,7 +3,7 @@ ghost use Rattle.std.specs.Prelude.{◌≡◌};
 ghost use Rattle.reach.specs.declared.fault.Fault.TheVariants.{Table};
 ghost use Rattle.reach.specs.Faults.{number_of, layer_of, place_of};
 
-use words::Layer;
+use words::{Layer, Reason};
 
 /// Why a table may not be, or become, as it was asked for.
 #[derive(Clone, Copy)]
@@ -14,11 +14,15 @@ pub enum Fault {
     Reach(u16),
 }
 
-impl Fault {
+impl Reason for Fault {
+    ghost number_of = { number_of };
+
+    ghost layer_of = { layer_of };
+
+    ghost place_of = { place_of };
+
     /// The number that the panel shows for the fault.
-    pub fn number(self) -> u8
-        ensures { result ≡ number_of self }
-    {
+    fn number(self) -> u8 {
         match self {
             Fault::Table(fault) => fault.number(),
             Fault::Reach(_) => 13,
@@ -26,9 +30,7 @@ impl Fault {
     }
 
     /// The layer that the panel shows for the fault.
-    pub fn layer(self) -> Layer
-        ensures { result ≡ layer_of self }
-    {
+    fn layer(self) -> Layer {
         match self {
             Fault::Table(fault) => fault.layer(),
             Fault::Reach(_) => Layer::Reach,
@@ -36,9 +38,7 @@ impl Fault {
     }
 
     /// The place that the panel shows for the fault: that of the table, or the last of a chain.
-    pub fn place(self) -> usize
-        ensures { result ≡ place_of self }
-    {
+    fn place(self) -> usize {
         match self {
             Fault::Table(fault) => fault.place(),
             Fault::Reach(place) => place as usize,

@@ -1,3 +1,4 @@
 pub mod Bytes
 pub mod Layers
 pub mod Lines
+pub mod Shown

@@ -1,8 +1,6 @@
 -- The lines that the panel shows; byte 10 ends a line.
 use Rattle.std.specs.Prelude.{ℕ, List, ◌++◌, take, Ok, Err, codes, decimal, Result}
 use Rattle.words.specs.declared.fault.Layer.{Layer}
-use Rattle.table.specs.declared.fault.Fault.{Fault}
-use Rattle.table.specs.Faults.{number_of, layer_of, place_of}
 use Rattle.readout.specs.declared.line.Line.{Line}
 use Rattle.readout.specs.Layers.{layer_name}
 
@@ -17,9 +15,10 @@ loaded_line nodes = codes "LOADED " ++ decimal nodes ++ codes " NODES 8 LANES\n"
 abbrev pub refusal_text : ℕ → Layer → ℕ → List ℕ
 refusal_text number layer place = codes "REFUSED " ++ decimal number ++ codes " " ++ layer_name layer ++ codes " " ++ decimal place
 
-abbrev pub refused_line : Fault → List ℕ
-refused_line fault = refusal_text (number_of fault) (layer_of fault) (place_of fault) ++ codes "\n"
+abbrev pub refused_line : ℕ → Layer → ℕ → List ℕ
+refused_line number layer place = refusal_text number layer place ++ codes "\n"
 
-abbrev pub panel_line : Result ℕ Fault → List ℕ
-panel_line (Ok nodes) = loaded_line nodes
-panel_line (Err fault) = refused_line fault
+-- the line for an answer, by what the panel shows of each fault
+abbrev pub panel_line : {F : Type 0} → (F → ℕ) → (F → Layer) → (F → ℕ) → Result ℕ F → List ℕ
+panel_line number_of layer_of place_of (Ok nodes) = loaded_line nodes
+panel_line number_of layer_of place_of (Err fault) = refused_line (number_of fault) (layer_of fault) (place_of fault)

@@ -27,8 +27,8 @@ pub fn pack(bytes: &[u8], words: &mut [u32]) -> usize
     ensures after { words.new ≡ take result (packed bytes.now) ++ drop result words.old }
 {
     let count = bytes.len().div_ceil(BYTES).min(words.len());
-    for k in 0..count {
-        words[k] = first_word(&bytes[BYTES * k..]);
+    for (k, four) in bytes.chunks(BYTES).take(count).enumerate() {
+        words[k] = first_word(four);
     }
     count
 }

@@ -2,9 +2,13 @@
 #![tactic(auto)]
 
 mod bytes;
+mod judging;
 mod layer;
 mod line;
+mod reading;
 
 pub use bytes::pack;
+pub use judging::shown;
 pub use layer::layer_text;
 pub use line::Line;
+pub use reading::fill;

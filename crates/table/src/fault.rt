@@ -4,7 +4,7 @@ ghost use Rattle.table.specs.declared.fault.Fault.TheVariants.{Words, Flaw};
 ghost use Rattle.table.specs.Faults.{number_of, layer_of, place_of};
 
 use structure::Flaw;
-use words::Layer;
+use words::{Layer, Reason};
 
 /// Why an image is not loaded.
 #[derive(Clone, Copy)]
@@ -17,11 +17,15 @@ pub enum Fault {
     Flaw(Flaw),
 }
 
-impl Fault {
+impl Reason for Fault {
+    ghost number_of = { number_of };
+
+    ghost layer_of = { layer_of };
+
+    ghost place_of = { place_of };
+
     /// The number that the panel shows for the fault.
-    pub fn number(self) -> u8
-        ensures { result ≡ number_of self }
-    {
+    fn number(self) -> u8 {
         match self {
             Fault::Words(fault) => fault.number(),
             Fault::Taken(_) => 7,
@@ -30,9 +34,7 @@ impl Fault {
     }
 
     /// The layer that the panel shows for the fault.
-    pub fn layer(self) -> Layer
-        ensures { result ≡ layer_of self }
-    {
+    fn layer(self) -> Layer {
         match self {
             Fault::Words(fault) => fault.layer(),
             Fault::Taken(_) | Fault::Flaw(_) => Layer::Table,
@@ -40,9 +42,7 @@ impl Fault {
     }
 
     /// The place that the panel shows for the fault: a position in the image, or a place of the table.
-    pub fn place(self) -> usize
-        ensures { result ≡ place_of self }
-    {
+    fn place(self) -> usize {
         match self {
             Fault::Words(fault) => fault.place(),
             Fault::Taken(place) => place as usize,

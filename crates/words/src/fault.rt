@@ -1,6 +1,7 @@
 //! What can be wrong with the words of an image, and how a fault is told.
-ghost use Rattle.std.specs.Prelude.{◌≡◌};
 ghost use Rattle.words.specs.Faults.{number_of, layer_of, place_of};
+
+use crate::reason::Reason;
 
 /// The part of the console that found a fault.
 #[derive(Clone, Copy, PartialEq, Eq, Debug)]
@@ -26,11 +27,15 @@ pub enum Fault {
     Ragged(usize),
 }
 
-impl Fault {
+impl Reason for Fault {
+    ghost number_of = { number_of };
+
+    ghost layer_of = { layer_of };
+
+    ghost place_of = { place_of };
+
     /// The number that the panel shows for the fault.
-    pub fn number(self) -> u8
-        ensures { result ≡ number_of self }
-    {
+    fn number(self) -> u8 {
         match self {
             Fault::BadWord(_) => 4,
             Fault::NotRising(_) => 5,
@@ -39,18 +44,14 @@ impl Fault {
     }
 
     /// The layer that the panel shows for the fault.
-    pub fn layer(self) -> Layer
-        ensures { result ≡ layer_of self }
-    {
+    fn layer(self) -> Layer {
         match self {
             Fault::BadWord(_) | Fault::NotRising(_) | Fault::Ragged(_) => Layer::Words,
         }
     }
 
     /// The place that the panel shows for the fault: a position.
-    pub fn place(self) -> usize
-        ensures { result ≡ place_of self }
-    {
+    fn place(self) -> usize {
         match self {
             Fault::BadWord(position) | Fault::NotRising(position) | Fault::Ragged(position) =>
                 position,

@@ -3,8 +3,10 @@
 
 mod fault;
 mod node;
+mod reason;
 mod word;
 
 pub use fault::{Fault, Layer};
 pub use node::{Alternatives, Body, Entry, Exit, Node, Order, Pass};
+pub use reason::Reason;
 pub use word::{Kind, Word, decode, encode, entry, entry_word};

@@ -4,7 +4,7 @@ ghost use Rattle.readout.specs.Lines.{held, loaded_line, refused_line, panel_lin
 
 use super::Line;
 use crate::layer::layer_text;
-use table::Fault;
+use words::Reason;
 
 impl Line {
     /// The line for an image of `nodes` nodes that was taken.
@@ -19,8 +19,8 @@ impl Line {
     }
 
     /// The line for an image that was refused, with the fault's number, layer and place.
-    pub fn refused(fault: Fault) -> Line
-        ensures { held result ≡ refused_line fault }
+    pub fn refused<F: Reason>(fault: F) -> Line
+        ensures { held result ≡ refused_line (F.number_of fault) (F.layer_of fault) (F.place_of fault) }
     {
         let mut line = Line::new();
         line.text(b"REFUSED ");
@@ -34,8 +34,8 @@ impl Line {
     }
 
     /// The panel's line for an image: how many nodes it has, or what is wrong with it.
-    pub fn judged(answer: Result<usize, Fault>) -> Line
-        ensures { held result ≡ panel_line answer }
+    pub fn judged<F: Reason>(answer: Result<usize, F>) -> Line
+        ensures { held result ≡ panel_line F.number_of F.layer_of F.place_of answer }
     {
         match answer {
             Ok(nodes) => Line::loaded(nodes),
