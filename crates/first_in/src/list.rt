@@ -13,14 +13,6 @@ pub struct FirstIn<'a, T> {
     len: usize,
 }
 
-/// How many slots hold an item, and what the slots hold where items were only pushed.
-fn filled<T: Copy>(list: &FirstIn<'_, T>) -> usize
-    ensures count { result ≡ length (items list.now) }
-    ensures slots { (start : List T) → Gathered start list.now → list.now.slots.now ≡ items list.now ++ drop result start }
-{
-    list.len.min(list.slots.len())
-}
-
 impl<'a, T: Copy> FirstIn<'a, T> {
     /// An empty list over `slots`.
     pub fn new(slots: &'a mut [T]) -> Self
@@ -40,7 +32,7 @@ impl<'a, T: Copy> FirstIn<'a, T> {
     pub fn len(&self) -> usize
         ensures { result ≡ length (items self.now) }
     {
-        filled(self)
+        self.len.min(self.capacity())
     }
 
     /// How many items the list can hold.
@@ -89,7 +81,7 @@ impl<'a, T: Copy> FirstIn<'a, T> {
         ensures count { result ≡ length (items self.entry) }
         ensures slots { (start : List T) → Gathered start self.entry → self.exit.0.now ≡ items self.entry ++ drop result start }
     {
-        filled(&self)
+        self.len()
     }
 
     /// Whether the list holds nothing.
