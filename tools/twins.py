@@ -4,8 +4,8 @@
 Run at the top of the repository.
 """
 import collections
-import glob
 import re
+import subprocess
 
 START = re.compile(r"^( *)(?:pub(?:\([a-z]+\))? )?fn (\w+)")
 
@@ -26,7 +26,7 @@ def functions(lines):
 
 
 bodies = collections.defaultdict(list)
-for path in sorted(glob.glob("crates/*/src/**/*.rt", recursive=True)):
+for path in subprocess.run(["git", "ls-files", "crates/*/src/*.rt"], capture_output=True, text=True, check=True).stdout.split():
     with open(path, encoding="utf-8") as file:
         for name, body in functions(file.read().split("\n")):
             if len(body) > 25:

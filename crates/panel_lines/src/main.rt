@@ -17,9 +17,7 @@ const HEATS: [u8; 95] = [
 /// The image with a count of so many nodes.
 fn counting(nodes: u8) -> [u8; 96] {
     let mut bytes = [nodes; 96];
-    for (i, byte) in HEATS.iter().enumerate() {
-        bytes[i] = *byte;
-    }
+    bytes[..HEATS.len()].copy_from_slice(&HEATS);
     bytes
 }
 

@@ -1,9 +1,9 @@
 -- Blank slots of a row stay blank under each change of it.
-use Rattle.std.proofs.Common.{◌≡◌, ℕ, zero, suc, ◌+◌, ◌-◌, ◌<◌, ◌≤◌, false, eqb, ◌≢◌, List, [], ◌∷◌, ◌++◌, length, get_or, drop, set, refl, ◌∙◌, arith, get_or-set_other, rules}
+use Rattle.std.proofs.Common.{◌≡◌, ℕ, zero, suc, ◌+◌, ◌-◌, ◌<◌, ◌≤◌, false, eqb, ◌≢◌, List, [], ◌∷◌, ◌++◌, length, get_or, drop, set, replicate, refl, ◌∙◌, arith, get_or-set_other, rules}
 use Rattle.words.specs.declared.node.Entry.{Entry}
 use Rattle.rows.specs.declared.plain.PlainRow.{PlainRow}
 use Rattle.rows.specs.Entries.{blank, spent_entry}
-use Rattle.rows.specs.Rows.{Canonical, joined, spent, left}
+use Rattle.rows.specs.Rows.{Canonical, empty_row, joined, spent, left}
 
 -- ### lists
 
@@ -30,6 +30,15 @@ get_or_drop_1 z [] k = refl
 get_or_drop_1 z (x ∷ xs) k = let h : k + 1 ≡ suc k = omega arith in rw h refl
 
 -- ### rows
+
+-- behind blanks too a read gives a blank
+blanks : (n k : ℕ) → get_or (replicate n blank) k blank ≡ blank
+blanks zero k = refl
+blanks (suc n) zero = refl
+blanks (suc n) (suc k) = blanks n k
+
+pub canonical_empty : Canonical empty_row
+canonical_empty k l = blanks 4 k
 
 abbrev row : ℕ → List Entry → PlainRow
 row n xs = record { count = n; entries = xs }

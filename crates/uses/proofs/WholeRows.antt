@@ -9,14 +9,14 @@ use Rattle.words.specs.declared.node.Node.{Node}
 use Rattle.rows.specs.declared.plain.PlainRow.{PlainRow}
 use Rattle.rows.specs.Entries.{blank, repeats_of, with_repeats, spent_entry, is_order_into, forgotten_entry}
 use Rattle.rows.specs.Rows.{slot, Canonical, vacant, first_of, empty_row, joined, spent, moved_up, left, forgotten}
-use Rattle.rows.proofs.Changes.{canonical_empty, canonical_forgotten}
+use Rattle.rows.proofs.Changes.{canonical_forgotten}
 use Rattle.table.specs.declared.state.Rows.{Rows}
 use Rattle.table.specs.Tables.{empty_rows, cleaned}
 use Rattle.table.specs.Changes.{is_urgent, row_of, with_row, joined_rows}
 use Rattle.reach.proofs.Sets.{at_set}
 use Rattle.calls.specs.Refusals.{may_wait}
 use Rattle.steps.specs.Steps.{oldest_in, before_other, ruling, used_by, used, rows_used_by, rows_used}
-use Rattle.uses.proofs.Blanks.{four_left, get_or_behind, get_or_drop_1, canonical_joined, canonical_spent, canonical_left}
+use Rattle.uses.proofs.Blanks.{four_left, get_or_behind, get_or_drop_1, canonical_empty, canonical_joined, canonical_spent, canonical_left}
 
 -- ### one row
 
