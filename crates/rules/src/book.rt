@@ -6,8 +6,11 @@ ghost use Rattle.rules.specs.declared.book.Rule.{Rule};
 /// A slot with no conclusion, or with one of 512 or more, is no rule, and a ground of 512 or more is never met.
 #[derive(Clone, Copy)]
 pub struct Rule {
+    /// A place that has to follow before, if one has to.
     pub first: Option<u16>,
+    /// Another such place.
     pub second: Option<u16>,
+    /// The place that follows.
     pub conclusion: Option<u16>,
 }
 

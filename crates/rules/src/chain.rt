@@ -6,7 +6,9 @@ ghost use Rattle.rules.specs.Steps.{Beginning, no_lines, pushed};
 /// A line of a chain: the number of a rule, and the place that the rule gives.
 #[derive(Clone, Copy)]
 pub struct Line {
+    /// The number of the rule in its book.
     pub rule: usize,
+    /// The place.
     pub place: u16,
 }
 

@@ -66,10 +66,7 @@ impl Derived {
         if place >= 512 || self.has(place) {
             return;
         }
-        if !self.places.meets(rule.first) {
-            return;
-        }
-        if !self.places.meets(rule.second) {
+        if !self.places.meets(rule.first) || !self.places.meets(rule.second) {
             return;
         }
         self.places.add(place);

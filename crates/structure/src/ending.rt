@@ -32,6 +32,7 @@ fn ending_rule(nodes: &[Option<Node>], place: u16) -> Rule
 /// The book by which messages and flows are well ended: a rule for each place.
 #[derive(Clone, Copy)]
 pub struct Endings<'a> {
+    /// The node of each place, if it has one.
     pub nodes: &'a [Option<Node>],
 }
 
