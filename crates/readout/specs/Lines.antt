@@ -1,12 +1,12 @@
 -- The lines that the panel shows; byte 10 ends a line.
-use Rattle.std.specs.Prelude.{ℕ, List, ◌++◌, take, Ok, Err, codes, decimal, Result}
+use Rattle.std.specs.Prelude.{ℕ, List, ◌++◌, Ok, Err, codes, decimal, Result}
 use Rattle.words.specs.declared.fault.Layer.{Layer}
 use Rattle.readout.specs.declared.line.Line.{Line}
 use Rattle.readout.specs.Layers.{layer_name}
 
 -- what stands on the line
 abbrev pub held : Line → List ℕ
-held line = take line.len line.bytes
+held line = line.text.bytes
 
 abbrev pub loaded_line : ℕ → List ℕ
 loaded_line nodes = codes "LOADED " ++ decimal nodes ++ codes " NODES 8 LANES\n"

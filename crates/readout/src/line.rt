@@ -1,13 +1,22 @@
 //! A line of text that is held by value.
-ghost use Rattle.std.specs.Prelude.{◌≤◌};
+ghost use Rattle.std.specs.Prelude.{◌≡◌};
+ghost use Rattle.readout.specs.Lines.{held};
 
 mod panel;
-mod text;
 
-/// A line of text, held by value: the first `len` of its bytes.
+use arrayvec::ArrayString;
+
+/// A line of text, held by value: at most 64 bytes.
 #[derive(Clone, Copy)]
 pub struct Line {
-    bytes: [u8; 64],
-    len: usize,
-    ghost fits: { len ≤ 64 },
+    text: ArrayString<64>,
+}
+
+impl Line {
+    /// The bytes of the line.
+    pub fn as_bytes(&self) -> &[u8]
+        ensures { result.now ≡ held self.now }
+    {
+        self.text.as_str().as_bytes()
+    }
 }

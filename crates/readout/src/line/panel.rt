@@ -4,6 +4,8 @@ ghost use Rattle.readout.specs.Lines.{held, loaded_line, refused_line, panel_lin
 
 use super::Line;
 use crate::layer::layer_text;
+use arrayvec::ArrayString;
+use itoa::Buffer;
 use words::Reason;
 
 impl Line {
@@ -11,26 +13,26 @@ impl Line {
     pub fn loaded(nodes: usize) -> Line
         ensures { held result ≡ loaded_line nodes }
     {
-        let mut line = Line::new();
-        line.text(b"LOADED ");
-        line.number(nodes);
-        line.text(b" NODES 8 LANES\n");
-        line
+        let mut text = ArrayString::new();
+        text.push_str("LOADED ");
+        text.push_str(Buffer::new().format(nodes));
+        text.push_str(" NODES 8 LANES\n");
+        Line { text }
     }
 
     /// The line for an image that was refused, with the fault's number, layer and place.
     pub fn refused<F: Reason>(fault: F) -> Line
         ensures { held result ≡ refused_line (F.number_of fault) (F.layer_of fault) (F.place_of fault) }
     {
-        let mut line = Line::new();
-        line.text(b"REFUSED ");
-        line.number(fault.number() as usize);
-        line.text(b" ");
-        line.text(layer_text(fault.layer()).as_bytes());
-        line.text(b" ");
-        line.number(fault.place());
-        line.text(b"\n");
-        line
+        let mut text = ArrayString::new();
+        text.push_str("REFUSED ");
+        text.push_str(Buffer::new().format(fault.number()));
+        text.push_str(" ");
+        text.push_str(layer_text(fault.layer()));
+        text.push_str(" ");
+        text.push_str(Buffer::new().format(fault.place()));
+        text.push_str("\n");
+        Line { text }
     }
 
     /// The panel's line for an image: how many nodes it has, or what is wrong with it.
