@@ -28,12 +28,12 @@ returns c =
     let kept : Bool → Lanes Lane = λ accepted. cond accepted (running lanes i place tick) lanes in
     let left : Left c.if-is_ok.trial ≡ kept (is_ok c.judge-answer.result) =
     elim c.if-is_ok.branch [
-      then-is_ok w ↦ ap Left w.trial-is ∙ tried ∙ ap kept w.if-is_ok.ensures.value
+      | then-is_ok w ↦ ap Left w.trial-is ∙ tried ∙ ap kept w.if-is_ok.ensures.value
       | else-is_ok w ↦
-        ap Left w.trial-is
-        ∙ ap (λ n. put_back c.call.new.self n c.new-trial.result.before) parts.1.0
-        ∙ ap (put_back c.call.new.self i) parts.1.1
-        ∙ lane_back lanes c.call.new.self i (record { state = Running place tick; sent = (lane_at lanes i).sent }) tried
-        ∙ ap kept w.if-is_ok.ensures.value
+          ap Left w.trial-is
+          ∙ ap (λ n. put_back c.call.new.self n c.new-trial.result.before) parts.1.0
+          ∙ ap (put_back c.call.new.self i) parts.1.1
+          ∙ lane_back lanes c.call.new.self i (record { state = Running place tick; sent = (lane_at lanes i).sent }) tried
+          ∙ ap kept w.if-is_ok.ensures.value
     ] in
     record { judged = subst P tried c.judge-answer.ensures; after = search rules }
