@@ -9,6 +9,7 @@ use reach::{Line, View, into_pattern, onto_empty};
 use table::Table;
 
 /// Refuses what the view shows where lanes can come to an empty place; the chain that shows it is written to the memory.
+// A type for a memory of 512 lines would have to name the loan of the lines in each contract that asks for their number here.
 pub(crate) fn judge(view: &View, chain: &mut [Line]) -> Result<(), Fault>
     requires { 512 ≤ length chain.old }
     ensures { Allows (scene_in view.now) result chain.old chain.new }

@@ -4,7 +4,7 @@ ghost use Rattle.first_in.specs.Items.{items, room, oldest, Gathered};
 ghost use Rattle.first_in.specs.Places.{place_of};
 
 /// A list of at most as many items as the lent slots; the item that came in first is handed out first.
-// The clauses `named` say that a list goes on lending the slots that it was made over: by them the caller knows what
+// Counts beside slots, and no heap of the library's: the memory is the caller's. The clauses `named` say that a list goes on lending the slots that it was made over: by them the caller knows what
 // the slots hold in the end.
 #[derive(Drop)]
 pub struct FirstIn<'a, T> {

@@ -30,8 +30,7 @@ fn slot_size(slot: Option<Node>) -> usize
 
 /// How many words the nodes of all places have.
 #[tactic(auto, using(crate::proofs::Puts::sizes_short))]
-fn needed(places: &[Option<Node>]) -> usize
-    requires { length places.now ≤ 512 }
+fn needed(places: &[Option<Node>; 512]) -> usize
     ensures value { result ≡ sum_by slot_size places.now }
     ensures bound { result ≤ 3072 }
 {
@@ -39,8 +38,7 @@ fn needed(places: &[Option<Node>]) -> usize
 }
 
 /// How many places have a node.
-fn live(places: &[Option<Node>]) -> usize
-    requires { length places.now ≤ 512 }
+fn live(places: &[Option<Node>; 512]) -> usize
     ensures value { result ≡ count_by is_some places.now }
     ensures bound { result ≤ 512 }
 {
@@ -147,13 +145,13 @@ impl<'a> Writer<'a> {
 
     /// Writes the nodes of all places, each with its head.
     #[tactic(auto, using(crate::proofs::Puts::size_more, crate::proofs::Puts::puts_more, crate::proofs::Puts::puts_long))]
-    fn put_nodes(&mut self, places: &[Option<Node>])
-        requires few { length places.now ≤ 512 }
-        requires room { self.old.position + length (nodes_words 0 places.now) ≤ length self.old.words.now }
+    fn put_nodes(&mut self, places: &[Option<Node>; 512])
+        requires { self.old.position + length (nodes_words 0 places.now) ≤ length self.old.words.now }
         ensures position { self.new.position ≡ self.old.position + length (nodes_words 0 places.now) }
         ensures words { self.new.words.now ≡ puts self.old.words.now self.old.position (nodes_words 0 places.now) }
         ensures named { self.new.words.ghost_name ≡ self.old.words.ghost_name }
     {
+        // the position is the place, and is written
         for (place, slot) in places.iter().enumerate() {
             self.put_slot(place as u16, *slot);
         }
@@ -161,8 +159,7 @@ impl<'a> Writer<'a> {
 }
 
 #[tactic(auto, using(crate::proofs::Puts::nodes_long, crate::proofs::Puts::image_long, crate::proofs::Puts::puts_long))]
-fn write_image(places: &[Option<Node>], words: &mut [u32]) -> Result<usize, TooShort>
-    requires { length places.now ≤ 512 }
+fn write_image(places: &[Option<Node>; 512], words: &mut [u32]) -> Result<usize, TooShort>
     ensures value { result ≡ write_answer places.now (length words.old) }
     ensures after { words.new ≡ write_leaves places.now words.old }
 {

@@ -28,6 +28,7 @@ pub enum Reply {
     Refused,
 }
 
+// Two constructors by name and no `From`: a `bool` does not say what is true.
 impl Reply {
     /// What came of an offer, by what `offer` said.
     pub fn to_offer(accepted: bool) -> Reply

@@ -79,6 +79,7 @@ fn play_all<R: BufRead, O: Outlet, F: Fn(&Call) -> bool>(
     if let Some(line) = first {
         play(rt, player, &line, understands)?;
     }
+    // a reader of input has no end that a measure could count down to
     for _ in 0..u64::MAX {
         match script.call_line(rt.alloc())? {
             Some(line) => play(rt, player, &line, understands)?,

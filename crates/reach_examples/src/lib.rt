@@ -80,11 +80,7 @@ mod examples {
     }
 
     fn view(table: &Table) -> View {
-        View {
-            nodes: &table.nodes,
-            rows: &table.rows,
-            lanes: &table.lanes,
-        }
+        View::from(table)
     }
 
     #[test]

@@ -5,6 +5,7 @@ ghost use Rattle.readout.specs.Layers.{layer_name};
 use words::Layer;
 
 /// The name of a layer, as the panel shows it.
+// A text and no `Display`: a line is put together of texts that fit it, and `write!` may fail.
 pub fn layer_text(layer: Layer) -> &'static str
     ensures { result.now ≡ layer_name layer }
 {

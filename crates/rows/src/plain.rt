@@ -15,6 +15,7 @@ pub const BLANK: Entry = Entry::Pass(Pass {
 ///
 /// The first `count` slots hold the waiting entries, the oldest first. Each other slot holds `BLANK`, so that rows with
 /// the same entries are equal.
+// A count beside slots, since a table is plain data of a fixed size.
 #[derive(Clone, Copy)]
 pub struct PlainRow {
     /// How many entries wait.

@@ -77,6 +77,7 @@ impl Derived {
     fn sweep<B: Book>(&mut self, book: &B)
         ensures { Swept (B.rules book.now) (B.size book.now) self.old self.new }
     {
+        // a book's rules are computed from their numbers, and stand in no list
         for k in 0..book.count() {
             self.consider(k, book.rule(k));
         }

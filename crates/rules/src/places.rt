@@ -7,6 +7,7 @@ ghost use Rattle.rules.specs.Steps.{no_places, with_place, with_ground, with_gro
 use super::book::Rule;
 
 /// A set of places below 512.
+// A mark for each place, since the library takes no memory.
 #[derive(Clone, Copy)]
 pub struct Places {
     marked: [bool; 512],
@@ -41,6 +42,7 @@ impl Places {
     pub fn add(&mut self, place: u16)
         ensures { self.new ≡ with_place self.old place }
     {
+        // by number, since a proof does not see what is written through `get_mut`
         let at = place as usize;
         if at < 512 {
             self.marked[at] = true;

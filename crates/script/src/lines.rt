@@ -54,6 +54,7 @@ impl<R: BufRead> Script<R> {
 
     /// The next line that is no remark, or nothing where the script ends.
     pub fn call_line(&mut self, heap: Global) -> io::Result<Option<Numbered>> {
+        // a reader of input has no end that a measure could count down to
         for _ in 0..u64::MAX {
             match self.line(heap)? {
                 Some(line) => {

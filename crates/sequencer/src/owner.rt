@@ -15,6 +15,7 @@ use table::Table;
 
 /// A table and an outlet. Nothing changes them but these calls, so that what holds after every list of calls holds of them: no lane stands on
 /// an empty place or can come to one, a refusal for reach has its cause, and no message is lost or doubled.
+// Each call says for itself what it leaves alone and that it leads on by its event: an invariant could name no event.
 #[derive(Drop)]
 pub struct Sequencer<O> {
     pub(crate) table: Table,

@@ -15,6 +15,7 @@ pub struct Slots<T, const N: usize> {
 impl<T, const N: usize> Slots<T, N> {
     /// Lends the item in slot `i`, which has to be below `N`. When the loan ends, the slot holds what was left in the item,
     /// and every other slot holds what it held.
+    // Its proof stands by hand: none is generated for what an array in a field lends.
     pub fn slot_mut(&mut self, i: usize) -> &mut T
         requires { i < N }
         ensures* follows { sem 𝓛 (follows (the_row T.row N.row) T.row self.entry.ghost_name result.ghost_name (λ w. record { items = set self.old.items i w })) }

@@ -30,6 +30,7 @@ impl Rows {
 }
 
 /// A table of 512 places and eight lanes.
+// Nodes and rows are two arrays, since an image is read into nodes, judged and written by nodes alone.
 #[derive(Clone, Copy)]
 pub struct Table {
     /// The node of each place, if it has one.

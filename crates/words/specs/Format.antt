@@ -26,12 +26,18 @@ abbrev pub mapped : {A B : Type 0} → (A → B) → Option A → Option B
 mapped f o = then o (λ x. Some (f x))
 
 -- the place that the low n bits name; a place is below 512, so the bits of the n above a place's are 0
+abbrev pub place_by : ℕ → Option ℕ
+place_by n = when (nat_lt n 512) n
+
 abbrev pub place_in : ℕ → ℕ → Option ℕ
-place_in w n = when (nat_lt (w % 2 ^ n) 512) (w % 2 ^ n)
+place_in w n = place_by (w % 2 ^ n)
 
 -- the same, or 4095, which stands for the end of the programme
+abbrev pub exit_by : ℕ → Option Exit
+exit_by n = cond (nat_lt n 512) (Some (exit.Place n)) (when (n == 4095) exit.End)
+
 abbrev pub exit_in : ℕ → ℕ → Option Exit
-exit_in w n = cond (nat_lt (w % 2 ^ n) 512) (Some (exit.Place (w % 2 ^ n))) (when (w % 2 ^ n == 4095) exit.End)
+exit_in w n = exit_by (w % 2 ^ n)
 
 abbrev pub kind_by : ℕ → Option Kind
 kind_by n = cond (n == 1) (Some Message) (cond (n == 2) (Some Block) (cond (n == 3) (Some Flow) None))

@@ -1,6 +1,6 @@
 //! One word of an image, and the 32 bits that it is written as.
 ghost use Rattle.std.specs.Prelude.{◌≡◌, ℕ, ◌+◌, ◌*◌, ◌/◌, ◌%◌, ◌^◌, ◌<◌, ◌≤◌};
-ghost use Rattle.words.specs.Format.{read, place_in, exit_in, kind_by, head_in, repeats_in, order_in, pass_in, end_in, written, exit_number, entry_of, entry_as_word};
+ghost use Rattle.words.specs.Format.{read, place_by, exit_by, kind_by, head_in, repeats_in, order_in, pass_in, end_in, written, exit_number, entry_of, entry_as_word};
 ghost use Rattle.words.specs.Laws.{ReadsBack, WritesBack};
 
 use crate::fault::Fault;
@@ -68,29 +68,28 @@ fn field(w: u32, low: u32, size: u32) -> u32
     w >> low & (1 << size) - 1
 }
 
-/// The place that the low `size` bits name.
-fn place_in(w: u32, size: u32) -> Option<u16>
-    requires some { 0 < size }
-    requires few { size < 32 }
-    ensures { result ≡ place_in w size }
+/// The place with the number, if there is one.
+fn place_by(number: u32) -> Option<u16>
+    ensures { result ≡ place_by number }
 {
-    let low = field(w, 0, size);
-    if low < PLACES { Some(low as u16) } else { None }
-}
-
-/// The place that the low `size` bits name, or the end.
-fn exit_in(w: u32, size: u32) -> Option<Exit>
-    requires some { 0 < size }
-    requires few { size < 32 }
-    ensures { result ≡ exit_in w size }
-{
-    let low = field(w, 0, size);
-    if low < PLACES {
-        return Some(Exit::Place(low as u16));
+    if number < PLACES {
+        Some(number as u16)
+    } else {
+        None
     }
-    if low == END { Some(Exit::End) } else { None }
 }
 
+/// The place with the number, or the end, if the number stands for either.
+fn exit_by(number: u32) -> Option<Exit>
+    ensures { result ≡ exit_by number }
+{
+    if number == END {
+        return Some(Exit::End);
+    }
+    place_by(number).map(Exit::Place)
+}
+
+// an option and no `TryFrom`, whose error nobody would read
 fn kind_by(number: u32) -> Option<Kind>
     ensures { result ≡ kind_by number }
 {
@@ -106,7 +105,7 @@ fn head_in(w: u32) -> Option<Word>
     ensures { result ≡ head_in w }
 {
     let kind = kind_by(field(w, 24, 4))?;
-    let place = place_in(w, 16)?;
+    let place = place_by(field(w, 0, 16))?;
     Some(Word::Head {
         kind,
         pattern: field(w, 16, 8) as u8,
@@ -125,7 +124,7 @@ fn order_in(w: u32) -> Option<Word>
     ensures { result ≡ order_in w }
 {
     let repeats = repeats_in(w)?;
-    let destination = exit_in(w, 18)?;
+    let destination = exit_by(field(w, 0, 18))?;
     Some(Word::Order(Order {
         repeats,
         lasting: field(w, 19, 1) == 1,
@@ -164,11 +163,11 @@ fn word_in(w: u32) -> Option<Word>
 {
     match w >> 28 {
         1 => head_in(w),
-        2 => Some(Word::Next(exit_in(w, 28)?)),
+        2 => Some(Word::Next(exit_by(field(w, 0, 28))?)),
         3 => Some(Word::Time(field(w, 0, 28))),
         4 => Some(Word::Event(field(w, 0, 28))),
-        5 => Some(Word::Alternative(exit_in(w, 28)?)),
-        6 => Some(Word::Target(place_in(w, 28)?)),
+        5 => Some(Word::Alternative(exit_by(field(w, 0, 28))?)),
+        6 => Some(Word::Target(place_by(field(w, 0, 28))?)),
         7 => order_in(w),
         8 => pass_in(w),
         15 => end_in(w),
