@@ -4,7 +4,8 @@
 ghost use Rattle.calls_readout.specs.Shown.{Answers, Shown};
 
 use calls::Fault;
-use readout::{Line, shown};
+use readout::shown;
+pub use readout::{Line, layer_text, pack};
 use table::Table;
 
 /// The panel's line for the image that the bytes make, as a cleared table judges it.

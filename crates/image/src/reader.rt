@@ -112,7 +112,7 @@ fn alternative_in(words: &[u32], i: usize) -> Option<Exit>
     words.get(i).and_then(|word| alternative_of(*word))
 }
 
-/// The same, which must be none of the known exits.
+/// The alternative that is word `i` of `words`, if there is one; it must be none of the known exits.
 fn fresh(words: &[u32], i: usize, known: &[Exit], at: usize) -> Result<Option<Exit>, Fault>
     ensures { result ≡ fresh known.now at (alternative_in words.now i) }
 {
@@ -139,6 +139,7 @@ fn alternatives(words: &[u32], at: usize, next: Exit) -> Result<Alternatives, Fa
     }
 }
 
+/// A message: its next, its offset and, at the front of the rest, its event.
 fn message(next: u32, time: u32, rest: &[u32], at: usize) -> Result<Body, Fault>
     requires { at + 2 + length rest.now < 2 ^ 64 }
     ensures { result ≡ message_of next time rest.now at }
@@ -156,6 +157,7 @@ fn message(next: u32, time: u32, rest: &[u32], at: usize) -> Result<Body, Fault>
     })
 }
 
+/// A block: its next, its period and, at the front of the rest, its alternatives.
 fn block(next: u32, time: u32, rest: &[u32], at: usize) -> Result<Body, Fault>
     requires { at + 2 + length rest.now < 2 ^ 64 }
     ensures { result ≡ block_of next time rest.now at }
@@ -189,6 +191,7 @@ fn queued(words: &[u32], at: usize) -> Result<(u16, Order), Fault>
     }
 }
 
+/// A flow: its next, its offset and, at the front of the rest, its target and its order.
 fn flow(next: u32, time: u32, rest: &[u32], at: usize) -> Result<Body, Fault>
     requires { at + 2 + length rest.now < 2 ^ 64 }
     ensures { result ≡ flow_of next time rest.now at }

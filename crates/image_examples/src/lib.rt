@@ -10,13 +10,9 @@ mod examples {
 
     // The words are accepted as an image of so many nodes.
     fn accepted(rt: &impl Abort, words: &[u32], nodes: usize) -> Result<(), Fail> {
-        match read(words) {
-            Ok(image) => {
-                assert_eq!(rt; image.nodes, nodes);
-                Ok(())
-            },
-            Err(_) => Err(Fail::new("refused")),
-        }
+        let image = read(words).map_err(|_| Fail::new("refused"))?;
+        assert_eq!(rt; image.nodes, nodes);
+        Ok(())
     }
 
     // The words are refused with this number at this position.

@@ -11,14 +11,6 @@ use reach::{Letter, Line};
 use std::alloc::{AllocError, Global};
 use std::fmt;
 
-/// What stands in a memory before a chain is written into it.
-pub const BLANK: Line = Line {
-    place: 0,
-    letter: Letter::Lane,
-    first: 0,
-    second: 0,
-};
-
 fn letter_text(letter: Letter) -> &'static str
     ensures { result.now ≡ letter_text letter }
 {

@@ -7,11 +7,11 @@ ghost use Rattle.player.specs.Stages.{stage_of};
 ghost use Rattle.player.specs.Told.{told};
 
 use crate::answer::Answer;
-use crate::chain::{BLANK, chain_to};
+use crate::chain::chain_to;
 use crate::player::Player;
 use lanes::{Lane, LaneState};
 use outlets::Outlet;
-use reach::{View, to_place};
+use reach::{Line, View, to_place};
 use std::alloc::AllocError;
 
 /// A lane that walks nowhere and has sent nothing.
@@ -25,7 +25,7 @@ impl<O: Outlet> Player<O> {
     pub(crate) fn set_memory(&mut self, lines: u32) -> Result<Answer, AllocError>
         ensures { Played O.Outlet.meaning (stage_of self.old) (memory_said lines) result (stage_of self.new) }
     {
-        self.memory = vec![in self.heap; BLANK; lines as usize]?;
+        self.memory = vec![in self.heap; Line::BLANK; lines as usize]?;
         Ok(Answer::Memory(lines))
     }
 

@@ -5,9 +5,9 @@ ghost use Rattle.script.specs.Calls.{call_in};
 ghost use Rattle.script.specs.Parts.{line_text, parts_of};
 ghost use Rattle.player.specs.Sessions.{Understood};
 
-use crate::chain::BLANK;
 use crate::player::Player;
 use outlets::{EarliestDue, FirstInOutlet, Message, Outlet};
+use reach::Line;
 use script::{Call, Choice, Numbered, OutletKind, Script, chosen_by, parse};
 use std::alloc::{AllocError, Global};
 use std::io;
@@ -99,7 +99,7 @@ fn play_over<R: BufRead, O: Outlet + Drop, F: Fn(&Call) -> bool>(
 ) -> io::Result<()>
     requires { F.IsAlwaysCallable understands.now }
 {
-    let memory = vec![in rt.alloc(); BLANK; LINES]?;
+    let memory = vec![in rt.alloc(); Line::BLANK; LINES]?;
     let mut player = Player::new(rt.alloc(), outlet, memory);
     let played = play_all(rt, script, first, &mut player, understands);
     let ended = match player.finish() {

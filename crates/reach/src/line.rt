@@ -25,3 +25,13 @@ pub struct Line {
     /// The flow's target for F; otherwise 0.
     pub second: u16,
 }
+
+impl Line {
+    /// What stands in a memory of lines before a chain is written to it.
+    pub const BLANK: Line = Line {
+        place: 0,
+        letter: Letter::Lane,
+        first: 0,
+        second: 0,
+    };
+}

@@ -11,7 +11,7 @@ use lanes::Lanes;
 use rows::PlainRow;
 use rules::{Book, Rule};
 use structure::node_at;
-use table::{Rows, Table};
+use table::{Rows, Table, rows_in};
 use words::Node;
 
 /// Nodes, rows and lanes, side by side: those of a table, or with other lanes that are only tried.
@@ -57,9 +57,7 @@ impl View<'_> {
         ensures { result ≡ rows_in (scene_in self.now) place }
     {
         let rows = self.rows;
-        rows.get(usize::from(place))
-            .copied()
-            .unwrap_or(Rows::empty())
+        rows_in(rows, place as usize)
     }
 
     /// Where the entry `k` of a row leads, if the row's place has a block.

@@ -37,13 +37,6 @@ mod examples {
         0xF000_0006,
     ];
 
-    const BLANK: Line = Line {
-        place: 0,
-        letter: Letter::Lane,
-        first: 0,
-        second: 0,
-    };
-
     fn line(place: u16, letter: Letter, first: u16, second: u16) -> Line {
         Line {
             place,
@@ -55,17 +48,15 @@ mod examples {
 
     fn heats() -> Result<Table, Fail> {
         let mut table = Table::cleared();
-        match table.load(&HEATS) {
-            Ok(_) => Ok(table),
-            Err(_) => Err(Fail::new("refused")),
-        }
+        table.load(&HEATS).map_err(|_| Fail::new("refused"))?;
+        Ok(table)
     }
 
     fn start(table: &mut Table, lane: usize, place: u16) -> Result<(), Fail> {
-        match table.lanes.call(lane, LaneCall::Start { place, tick: 0 }) {
-            Ok(()) => Ok(()),
-            Err(_) => Err(Fail::new("not idle")),
-        }
+        table
+            .lanes
+            .call(lane, LaneCall::Start { place, tick: 0 })
+            .map_err(|_| Fail::new("not idle"))
     }
 
     // an order for so many visits waits at block 1, to place 2
@@ -90,7 +81,7 @@ mod examples {
         assert!(rt; in_reach(&view(&table), 0));
         assert!(rt; in_reach(&view(&table), 1));
         assert!(rt; !in_reach(&view(&table), 2));
-        let mut chain = [BLANK; 512];
+        let mut chain = [Line::BLANK; 512];
         assert_eq!(rt; into_pattern(&view(&table), 2, &mut chain), None);
         assert_eq!(rt; onto_empty(&view(&table), &mut chain), None);
         Ok(())
@@ -110,12 +101,12 @@ mod examples {
         let mut table = heats()?;
         start(&mut table, 0, 0)?;
         order(&mut table, 1);
-        let mut chain = [BLANK; 512];
+        let mut chain = [Line::BLANK; 512];
         assert_eq!(rt; to_place(&view(&table), 2, &mut chain), Some(2));
         assert_eq!(rt; chain[0], line(0, Letter::Lane, 0, 0));
         assert_eq!(rt; chain[1], line(1, Letter::Next, 0, 0));
         assert_eq!(rt; chain[2], line(2, Letter::Queue, 1, 0));
-        assert_eq!(rt; chain[3], BLANK, "later lines keep what they held");
+        assert_eq!(rt; chain[3], Line::BLANK, "later lines keep what they held");
         Ok(())
     }
 
@@ -134,7 +125,7 @@ mod examples {
         start(&mut table, 1, 4)?;
         assert!(rt; !in_reach(&view(&table), 2), "the flow alone does not");
         start(&mut table, 0, 0)?;
-        let mut chain = [BLANK; 512];
+        let mut chain = [Line::BLANK; 512];
         assert_eq!(rt; to_place(&view(&table), 2, &mut chain), Some(2));
         assert_eq!(rt; chain[3], line(2, Letter::Flow, 4, 1));
         assert!(rt; into_pattern(&view(&table), 2, &mut chain).is_some());
@@ -145,7 +136,7 @@ mod examples {
     fn an_empty_place_is_told(rt: HostRuntime) -> Result<(), Fail> {
         let mut table = heats()?;
         start(&mut table, 2, 300)?;
-        let mut chain = [BLANK; 512];
+        let mut chain = [Line::BLANK; 512];
         assert_eq!(rt; onto_empty(&view(&table), &mut chain), Some(300));
         assert_eq!(rt; chain[0], line(300, Letter::Lane, 2, 0));
         Ok(())

@@ -11,14 +11,6 @@ use words::{Alternatives, Body, Exit, Node};
 /// The pattern of place 0, to which the way is longest.
 const LAST: u8 = 2;
 
-/// What the chain memory holds before.
-const BLANK: Line = Line {
-    place: 0,
-    letter: Letter::Lane,
-    first: 0,
-    second: 0,
-};
-
 /// A block that leads to the place below it, so that the rules stand in the worst order.
 fn rung(place: u16) -> Node {
     let next = if place == 0 {
@@ -57,7 +49,7 @@ fn long_way() -> Table {
 fn main(rt: HostRuntime) -> io::Result<()> {
     let table = long_way();
     let view = View::from(&table);
-    let mut chain = [BLANK; 512];
+    let mut chain = [Line::BLANK; 512];
     let before = Instant::now(&rt)?;
     let told = into_pattern(&view, LAST, &mut chain);
     let spent = before.elapsed(&rt)?.as_micros();

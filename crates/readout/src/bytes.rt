@@ -27,6 +27,7 @@ pub fn pack(bytes: &[u8], words: &mut [u32]) -> usize
     ensures after { words.new ≡ take result (packed bytes.now) ++ drop result words.old }
 {
     let count = bytes.len().div_ceil(BYTES).min(words.len());
+    // by number, since a proof does not see what is written through `iter_mut().zip(..)`
     for (k, four) in bytes.chunks(BYTES).take(count).enumerate() {
         words[k] = first_word(four);
     }

@@ -1,5 +1,5 @@
 //! A line of text that is held by value.
-ghost use Rattle.std.specs.Prelude.{◌≡◌};
+ghost use Rattle.std.specs.Prelude.{◌≡◌, ◌≤◌, length};
 ghost use Rattle.readout.specs.Lines.{held};
 
 mod panel;
@@ -15,7 +15,8 @@ pub struct Line {
 impl Line {
     /// The bytes of the line.
     pub fn as_bytes(&self) -> &[u8]
-        ensures { result.now ≡ held self.now }
+        ensures value { result.now ≡ held self.now }
+        ensures few { length result.now ≤ 64 }
     {
         self.text.as_str().as_bytes()
     }

@@ -43,7 +43,8 @@ impl Row {
 
     /// The row as it lies in a table.
     pub fn plain(self) -> PlainRow
-        ensures { result ≡ self }
+        ensures value { result ≡ self }
+        ensures few { result.count ≤ 4 }
     {
         let Row { plain } = self;
         plain
@@ -51,7 +52,8 @@ impl Row {
 
     /// How many entries wait.
     pub fn len(&self) -> usize
-        ensures { result ≡ self.now.count }
+        ensures value { result ≡ self.now.count }
+        ensures few { result ≤ 4 }
     {
         usize::from(self.plain.count)
     }

@@ -18,7 +18,9 @@ pub struct Script<R> {
 /// A line of a script with its number, counted from 1.
 #[derive(Drop)]
 pub struct Numbered {
+    /// The line as it was read, with the byte that ends it.
     pub bytes: Vec<u8>,
+    /// Its number.
     pub number: u64,
 }
 

@@ -11,21 +11,21 @@ fn exchanged(alternatives: Alternatives, destination: Exit, exit: Exit) -> Alter
 {
     match alternatives {
         Alternatives::None => Alternatives::None,
-        Alternatives::One(x) => Alternatives::One(if x.is(destination) { exit } else { x }),
+        Alternatives::One(x) => Alternatives::One(if x == destination { exit } else { x }),
         Alternatives::Two(x, y) => {
-            if x.is(destination) {
+            if x == destination {
                 Alternatives::Two(exit, y)
             } else {
-                Alternatives::Two(x, if y.is(destination) { exit } else { y })
+                Alternatives::Two(x, if y == destination { exit } else { y })
             }
         }
         Alternatives::Three(x, y, z) => {
-            if x.is(destination) {
+            if x == destination {
                 Alternatives::Three(exit, y, z)
-            } else if y.is(destination) {
+            } else if y == destination {
                 Alternatives::Three(x, exit, z)
             } else {
-                Alternatives::Three(x, y, if z.is(destination) { exit } else { z })
+                Alternatives::Three(x, y, if z == destination { exit } else { z })
             }
         }
     }

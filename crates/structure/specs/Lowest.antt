@@ -35,6 +35,6 @@ abbrev pub LowestBy : (ℕ → Bool → Type 0) → Option ℕ → Type 0
 LowestBy Answers None = NowhereBy Answers
 LowestBy Answers (Some place) = LowestAnswered Answers place
 
--- whatever is answered for a place is what the function gives there
+-- whatever is answered for one of the 512 places is what the function gives there
 abbrev pub Computes : (ℕ → Bool → Type 0) → (ℕ → Bool) → Type 0
-Computes Answers f = (p : ℕ) (b : Bool) → Answers p b → b ≡ f p
+Computes Answers f = (p : ℕ) → p < 512 → (b : Bool) → Answers p b → b ≡ f p

@@ -26,9 +26,9 @@ fn among(alternatives: Alternatives, exit: Exit) -> bool
 {
     match alternatives {
         Alternatives::None => false,
-        Alternatives::One(x) => x.is(exit),
-        Alternatives::Two(x, y) => x.is(exit) || y.is(exit),
-        Alternatives::Three(x, y, z) => x.is(exit) || y.is(exit) || z.is(exit),
+        Alternatives::One(x) => x == exit,
+        Alternatives::Two(x, y) => x == exit || y == exit,
+        Alternatives::Three(x, y, z) => x == exit || y == exit || z == exit,
     }
 }
 
@@ -41,7 +41,7 @@ pub fn lists(node: Option<Node>, exit: Exit) -> bool
             next,
             alternatives,
             ..
-        } => next.is(exit) || among(alternatives, exit),
+        } => next == exit || among(alternatives, exit),
         Body::Message { .. } | Body::Flow { .. } => false,
     })
 }

@@ -18,31 +18,17 @@ fn marked(nodes: &[Option<Node>; 512], pattern: u8) -> [bool; 512]
     marks
 }
 
-fn emptied_nodes(nodes: &[Option<Node>; 512], marks: &[bool; 512]) -> [Option<Node>; 512]
-    ensures { result ≡ zipped without nodes.now marks.now }
-{
-    let mut nodes = *nodes;
-    change_each(&mut nodes, marks, without);
-    nodes
-}
-
-fn cleaned_rows(rows: &[Rows; 512], marks: &[bool; 512]) -> [Rows; 512]
-    ensures { result ≡ zipped (cleaned marks.now) rows.now marks.now }
-{
-    let mut rows = *rows;
-    change_each(&mut rows, marks, |rows, mark| cleaned(marks, rows, mark));
-    rows
-}
-
 impl Table {
     fn without_pattern(&mut self, pattern: u8)
         ensures { self.new ≡ emptied self.old pattern }
     {
         let marks = marked(&self.nodes, pattern);
-        let nodes = emptied_nodes(&self.nodes, &marks);
-        let rows = cleaned_rows(&self.rows, &marks);
-        self.nodes = nodes;
-        self.rows = rows;
+        change_each(&mut self.nodes, &marks, without);
+        change_each(
+            &mut self.rows,
+            &marks,
+            |rows, mark| cleaned(&marks, rows, mark),
+        );
     }
 
     /// Empties the places of a pattern and their rows, and takes every repeat from the orders to them that wait elsewhere.

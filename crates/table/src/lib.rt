@@ -9,4 +9,4 @@ mod state;
 
 pub use changes::in_pattern;
 pub use fault::Fault;
-pub use state::{Rows, Table};
+pub use state::{Rows, Table, rows_in};

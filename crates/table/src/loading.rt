@@ -37,15 +37,6 @@ fn merged(old: &[Option<Node>; 512], new: &[Option<Node>; 512]) -> [Option<Node>
     nodes
 }
 
-/// The rows with those of the places that are loaded emptied.
-fn refreshed(rows: &[Rows; 512], new: &[Option<Node>; 512]) -> [Rows; 512]
-    ensures { result ≡ zipped fresh rows.now new.now }
-{
-    let mut rows = *rows;
-    change_each(&mut rows, new, fresh);
-    rows
-}
-
 /// The nodes as they would be, unless a place is taken or they would not hang together.
 fn judged(
     old: &[Option<Node>; 512],
@@ -69,9 +60,8 @@ impl Table {
     {
         let image = image::read(words)?;
         let nodes = judged(&self.nodes, &image.places)?;
-        let rows = refreshed(&self.rows, &image.places);
+        change_each(&mut self.rows, &image.places, fresh);
         self.nodes = nodes;
-        self.rows = rows;
         Ok(image.nodes)
     }
 

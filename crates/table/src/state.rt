@@ -1,5 +1,5 @@
 //! What a table holds.
-ghost use Rattle.std.specs.Prelude.{◌≡◌};
+ghost use Rattle.std.specs.Prelude.{◌≡◌, slice_index_or};
 ghost use Rattle.table.specs.Tables.{empty_rows, cleared};
 ghost use Rattle.table.specs.Changes.{rows_at};
 ghost use Rattle.table.specs.Laws.{Sound};
@@ -27,6 +27,13 @@ impl Rows {
             plain: PlainRow::empty(),
         }
     }
+}
+
+/// The rows with the number among all rows; behind the last, nothing waits.
+pub fn rows_in(rows: &[Rows], place: usize) -> Rows
+    ensures { result ≡ slice_index_or rows.now place empty_rows }
+{
+    rows.get(place).copied().unwrap_or(Rows::empty())
 }
 
 /// A table of 512 places and eight lanes.
@@ -60,7 +67,7 @@ impl Table {
     pub fn rows_at(&self, place: usize) -> Rows
         ensures { result ≡ rows_at self.now place }
     {
-        self.rows.get(place).copied().unwrap_or(Rows::empty())
+        rows_in(&self.rows, place)
     }
 
     /// A table with no node, idle lanes, counts of 0 and no open check.

@@ -6,10 +6,13 @@ use crate::fault::Layer;
 
 /// Why something is refused, as the panel tells it: by a number, a layer and a place.
 pub trait Reason: Copy {
+    /// The number.
     ghost number_of: { Self → ℕ };
 
+    /// The part of the console that found the reason.
     ghost layer_of: { Self → Layer };
 
+    /// The place.
     ghost place_of: { Self → ℕ };
 
     /// The number that the panel shows for the reason.

@@ -14,7 +14,7 @@ returns-in_err-place g c says computes =
     let s = scene_in c.args.view.now in
     let memory = c.args.chain.now in
     let d = c.derive-found.result in
-    let lowest = c.in_err-place.ensures.found (λ p. marks d p && says p) (λ p b k. search (rules, of_calls, computes)) in
+    let lowest = c.in_err-place.ensures.found (λ p. marks d p && says p) (λ p small b k. search (rules, of_calls, computes)) in
     let none = nowhere s says d c.derive-found.ensures.found c.bounded.ensures lowest in
     subst (λ r. Verdict s (Yes says) r memory memory) (sym c.from_residual.ensures) (none, refl)
 
@@ -25,7 +25,7 @@ returns g c says computes =
     let found = c.derive-found.ensures.found in
     let memory = c.args.chain.now in
     let p = c.in_ok-place.place in
-    let lowest = c.in_ok-place.ensures.found (λ p. marks d p && says p) (λ p b k. search (rules, of_calls, computes)) in
+    let lowest = c.in_ok-place.ensures.found (λ p. marks d p && says p) (λ p small b k. search (rules, of_calls, computes)) in
     let steps = lines_of c.in_ok-steps.steps in
     let few : length steps ≤ 512 = subst (λ l. length l ≤ 512) c.lines.ensures.value c.lines.ensures.few in (
       of_kind s says d found p lowest.here,

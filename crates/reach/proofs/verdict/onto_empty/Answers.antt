@@ -4,5 +4,5 @@ use Rattle.reach.proofs.verdict.onto_empty.Goals as goal
 
 pub returns : goal.returns
 returns c =
-    let verdict = c.judge.ensures (λ p. not (is_some (node_at c.args.view.now.nodes.now p))) (λ p b k. search rules) in
+    let verdict = c.judge.ensures (λ p. not (is_some (node_at c.args.view.now.nodes.now p))) (λ p small b k. search rules) in
     search rules

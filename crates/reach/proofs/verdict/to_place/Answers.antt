@@ -3,5 +3,5 @@ use Rattle.reach.proofs.verdict.to_place.Goals as goal
 
 pub returns : goal.returns
 returns c =
-    let verdict = c.judge.ensures (λ p. (p == c.args.place)) (λ p b k. search rules) in
+    let verdict = c.judge.ensures (λ p. (p == c.args.place)) (λ p small b k. search rules) in
     search rules

@@ -8,6 +8,6 @@ returns c =
     let long : length nodes ≤ 512 = omega arith in
     let laws = c.derive-ended.ensures.laws in
     record {
-      lowest = lowest_endless nodes long laws.whole c.derive-ended.result c.derive-ended.ensures.found _ (c.lowest.ensures.found _ (λ p b k. search rules));
+      lowest = lowest_endless nodes long laws.whole c.derive-ended.result c.derive-ended.ensures.found _ (c.lowest.ensures.found _ (λ p small b k. search rules));
       alike = ended_alike nodes long laws.whole;
     }

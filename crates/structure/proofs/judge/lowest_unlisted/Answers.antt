@@ -2,4 +2,4 @@ use Rattle.std.proofs.Common.{rules}
 use Rattle.structure.proofs.judge.lowest_unlisted.Goals as goal
 
 pub returns : goal.returns
-returns c = c.lowest.ensures.found _ (λ p b k. search rules)
+returns c = c.lowest.ensures.found _ (λ p small b k. search rules)
