@@ -9,10 +9,7 @@ use reach::is_block;
 use steps::has_room;
 use structure::{Flaw, lists, node_at};
 use table::Table;
-use words::{Entry, Node, entry};
-
-/// How many places a table has.
-const PLACES: u32 = 512;
+use words::{Entry, Node, PLACES, entry};
 
 /// How many patterns there are.
 const PATTERNS: u32 = 256;

@@ -22,13 +22,7 @@ pub struct EarliestDue<'a> {
 fn sooner(a: Message, b: Message) -> bool
     ensures { result ≡ before a b }
 {
-    if a.due != b.due {
-        return a.due < b.due;
-    }
-    if a.lane != b.lane {
-        return a.lane < b.lane;
-    }
-    a.event < b.event
+    (a.due, a.lane, a.event) < (b.due, b.lane, b.event)
 }
 
 impl<'a> EarliestDue<'a> {

@@ -8,12 +8,10 @@ use crate::name::{Name, name_of};
 use crate::number::{decimal, hexadecimal, long_decimal};
 use crate::parts::Parts;
 use std::alloc::{AllocError, Global};
+use words::PLACES;
 
 /// How many lanes there are.
 const LANES: u32 = 8;
-
-/// How many places a table has.
-const PLACES: u32 = 512;
 
 /// A script may ask for less memory than this, counted in messages or lines.
 pub const LIMIT: u32 = 65537;

@@ -9,4 +9,4 @@ mod word;
 pub use fault::{Fault, Layer};
 pub use node::{Alternatives, Body, Entry, Exit, Node, Order, Pass};
 pub use reason::Reason;
-pub use word::{Kind, Word, decode, encode, entry, entry_word};
+pub use word::{Kind, PLACES, Word, decode, encode, entry, entry_word};

@@ -7,7 +7,7 @@ use crate::fault::Fault;
 use crate::node::{Entry, Exit, Order, Pass};
 
 /// How many places a table has.
-const PLACES: u32 = 512;
+pub const PLACES: u32 = 512;
 
 /// What stands in a word for the end of the programme.
 const END: u32 = 4095;
