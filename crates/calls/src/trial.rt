@@ -63,13 +63,10 @@ pub(crate) fn try_start(
     ensures after { lanes.new ≡ (if is_ok result then running lanes.old lane place tick else lanes.old) }
 {
     let mut trial = Trial::new(lanes, lane);
-    if trial
+    trial
         .lanes
         .call(usize::from(lane), LaneCall::Start { place, tick })
-        .is_err()
-    {
-        return Err(Fault::State(u8::from(lane)));
-    }
+        .map_err(|_| Fault::State(u8::from(lane)))?;
     let view = View {
         nodes: &table.nodes,
         rows: &table.rows,

@@ -28,6 +28,8 @@ struct Reader<'a> {
     ghost low: { floor ≤ 512 },
 }
 
+// A function for each part of a node, since which variant is wanted cannot be a parameter.
+
 /// The exit that `w` says where a next is wanted.
 fn exit_of(w: u32) -> Option<Exit>
     ensures { result ≡ exit_of w }

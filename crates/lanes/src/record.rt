@@ -44,6 +44,7 @@ impl<L> Lanes<L> {
         self.lanes.slot_mut(i)
     }
 
+    // beside `lane_mut`, which asks that a plain number is below 8
     /// Lends the lane with the number. When the loan ends the other lanes are as they were.
     pub fn at_mut(&mut self, number: LaneNumber) -> &mut L
         ensures* follows { sem 𝓛 (follows (the_row L.row) L.row self.entry.ghost_name result.ghost_name (λ w. record { lanes = record { items = slice_set self.old.lanes.items number w } })) }

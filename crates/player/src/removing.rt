@@ -29,6 +29,8 @@ impl<O: Outlet> Player<O> {
         }
     }
 
+    // `remove` and `release` stand apart: a closure that makes the call would have to say again all that the call says.
+
     /// Removes the pattern of the permit in hand. It is that of the open check, so that it is not refused.
     pub(crate) fn remove(&mut self) -> Answer
         ensures { Plays O.Outlet.meaning (stage_of self.old) remove_said (told result) (stage_of self.new) }

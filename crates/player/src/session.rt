@@ -48,6 +48,8 @@ fn understood<F: Fn(&Call) -> bool>(
     }
 }
 
+// The runtime, the script and the closure go from function to function: as fields each method would ask the same of the closure.
+
 /// Plays the call on a line, and writes its answer.
 fn play<O: Outlet, F: Fn(&Call) -> bool>(
     rt: &HostRuntime,

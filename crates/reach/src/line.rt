@@ -14,6 +14,7 @@ pub enum Letter {
 }
 
 /// A line of a chain: a place, and its ground.
+// A letter and two numbers, as a line is shown; which number means what, the letter says.
 #[derive(Clone, Copy, PartialEq, Eq, Debug)]
 pub struct Line {
     /// The place that is come to.

@@ -37,6 +37,8 @@ mod examples {
         0xF000_0006,
     ];
 
+    const BLANK: Line = Line::BLANK;
+
     fn line(place: u16, letter: Letter, first: u16, second: u16) -> Line {
         Line {
             place,
@@ -81,7 +83,7 @@ mod examples {
         assert!(rt; in_reach(&view(&table), 0));
         assert!(rt; in_reach(&view(&table), 1));
         assert!(rt; !in_reach(&view(&table), 2));
-        let mut chain = [Line::BLANK; 512];
+        let mut chain = [BLANK; 512];
         assert_eq!(rt; into_pattern(&view(&table), 2, &mut chain), None);
         assert_eq!(rt; onto_empty(&view(&table), &mut chain), None);
         Ok(())
@@ -101,12 +103,12 @@ mod examples {
         let mut table = heats()?;
         start(&mut table, 0, 0)?;
         order(&mut table, 1);
-        let mut chain = [Line::BLANK; 512];
+        let mut chain = [BLANK; 512];
         assert_eq!(rt; to_place(&view(&table), 2, &mut chain), Some(2));
         assert_eq!(rt; chain[0], line(0, Letter::Lane, 0, 0));
         assert_eq!(rt; chain[1], line(1, Letter::Next, 0, 0));
         assert_eq!(rt; chain[2], line(2, Letter::Queue, 1, 0));
-        assert_eq!(rt; chain[3], Line::BLANK, "later lines keep what they held");
+        assert_eq!(rt; chain[3], BLANK, "later lines keep what they held");
         Ok(())
     }
 
@@ -125,7 +127,7 @@ mod examples {
         start(&mut table, 1, 4)?;
         assert!(rt; !in_reach(&view(&table), 2), "the flow alone does not");
         start(&mut table, 0, 0)?;
-        let mut chain = [Line::BLANK; 512];
+        let mut chain = [BLANK; 512];
         assert_eq!(rt; to_place(&view(&table), 2, &mut chain), Some(2));
         assert_eq!(rt; chain[3], line(2, Letter::Flow, 4, 1));
         assert!(rt; into_pattern(&view(&table), 2, &mut chain).is_some());
@@ -136,7 +138,7 @@ mod examples {
     fn an_empty_place_is_told(rt: HostRuntime) -> Result<(), Fail> {
         let mut table = heats()?;
         start(&mut table, 2, 300)?;
-        let mut chain = [Line::BLANK; 512];
+        let mut chain = [BLANK; 512];
         assert_eq!(rt; onto_empty(&view(&table), &mut chain), Some(300));
         assert_eq!(rt; chain[0], line(300, Letter::Lane, 2, 0));
         Ok(())

@@ -1,5 +1,5 @@
 //! Rows as they lie in a table.
-ghost use Rattle.std.specs.Prelude.{◌≡◌};
+ghost use Rattle.std.specs.Prelude.{◌≡◌, length};
 ghost use Rattle.rows.specs.Rows.{Canonical, ToldByWaiting, empty_row, moved_up, forgotten};
 
 use crate::entry;
@@ -56,7 +56,8 @@ pub fn blank_behind()
 
 /// The entries without the first: the others move up, and the last slot is blank.
 pub(crate) fn moved_up(entries: [Entry; 4]) -> [Entry; 4]
-    ensures { result ≡ moved_up entries }
+    ensures exact { result ≡ moved_up entries }
+    ensures four { length entries ≡ 4 }
 {
     let [_, b, c, d] = entries;
     [b, c, d, BLANK]

@@ -43,6 +43,7 @@ pub enum Name {
 }
 
 /// All names.
+// Searched by the text that `name_text` gives each, so that a name is read as it is written and the texts stand once.
 const NAMES: [Name; 16] = [
     Name::Memory,
     Name::Load,

@@ -237,6 +237,7 @@ pub fn encode(word: Word) -> u32
 }
 
 /// The order or pass that a word given alone says. What is wrong with the word is told at position 0.
+// No `TryFrom<Word>`, whose error would say less than the fault.
 pub fn entry(w: u32) -> Result<Entry, Fault>
     ensures { result ≡ entry_of w }
 {
