@@ -24,7 +24,7 @@ impl Rule {
 }
 
 /// A fixed list of rules: those with a number below the book's count.
-// A rule is computed from its number, which each book tests for itself: no list of rules stands in memory.
+// A rule is computed from its number, which each book looks at for itself: no list of rules stands in memory.
 pub trait Book {
     ghost size: { Self → ℕ };
 
