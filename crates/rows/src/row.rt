@@ -60,14 +60,16 @@ impl Row {
 
     /// Whether no entry waits.
     pub fn is_empty(&self) -> bool
-        ensures { result ≡ vacant self.now }
+        ensures value { result ≡ vacant self.now }
+        ensures few { self.now.count ≤ 4 }
     {
         self.plain.count == 0
     }
 
     /// Whether four entries wait.
     pub fn is_full(&self) -> bool
-        ensures { result ≡ full self.now }
+        ensures value { result ≡ full self.now }
+        ensures few { self.now.count ≤ 4 }
     {
         self.plain.count == 4
     }
@@ -78,6 +80,7 @@ impl Row {
         ensures exact { self.new ≡ (if result then joined self.old e else self.old) }
         ensures listed { waiting self.new ≡ (if result then waiting self.old ++ e ∷ [] else waiting self.old) }
         ensures canonical { Canonical self.old → Canonical self.new }
+        ensures few { self.new.count ≤ 4 }
     {
         if self.is_full() {
             return false;
@@ -92,6 +95,7 @@ impl Row {
     pub fn first(&self) -> Option<Entry>
         ensures exact { result ≡ first_of self.now }
         ensures listed { result ≡ oldest (waiting self.now) }
+        ensures few { self.now.count ≤ 4 }
     {
         match self.plain.count {
             0 => None,
@@ -104,6 +108,7 @@ impl Row {
         ensures exact { self.new ≡ spent self.old }
         ensures listed { waiting self.new ≡ first_spent (waiting self.old) }
         ensures canonical { Canonical self.old → Canonical self.new }
+        ensures few { self.new.count ≤ 4 }
     {
         if self.is_empty() {
             return;
@@ -116,6 +121,7 @@ impl Row {
         ensures exact { self.new ≡ left self.old }
         ensures listed { waiting self.new ≡ drop 1 (waiting self.old) }
         ensures canonical { Canonical self.old → Canonical self.new }
+        ensures few { self.new.count ≤ 4 }
     {
         if self.is_empty() {
             return;
@@ -130,6 +136,7 @@ impl Row {
         ensures exact { self.new ≡ forgotten places.now self.old }
         ensures listed { waiting self.new ≡ map (forgotten_entry places.now) (waiting self.old) }
         ensures canonical { Canonical self.old → Canonical self.new }
+        ensures few { self.new.count ≤ 4 }
     {
         self.plain = self.plain.forgotten(places);
     }
