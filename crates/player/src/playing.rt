@@ -1,9 +1,11 @@
 //! A player makes the calls of a script.
-ghost use Rattle.std.specs.Prelude.{◌≡◌};
+ghost use Rattle.std.specs.Prelude.{◌≡◌, None, IfOk};
 ghost use Rattle.table.specs.Tables.{cleared};
 ghost use Rattle.script.specs.Calls.{said};
+ghost use Rattle.player.specs.Alone.{PlaysAlone};
 ghost use Rattle.player.specs.Playing.{Played};
 ghost use Rattle.player.specs.Stages.{stage_of};
+ghost use Rattle.player.specs.Told.{told};
 
 use crate::answer::Answer;
 use crate::player::Player;
@@ -26,9 +28,10 @@ impl<O: Outlet> Player<O> {
         }
     }
 
-    /// Makes a call.
+    /// Makes a call. While no check is open, a load is the table's own, and none is opened by what works on the table alone.
     pub fn play(&mut self, call: Call) -> Result<Answer, AllocError>
-        ensures { Played O.Outlet.meaning (stage_of self.old) (said call) result (stage_of self.new) }
+        ensures exact { Played O.Outlet.meaning (stage_of self.old) (said call) result (stage_of self.new) }
+        ensures alone { (stage_of self.old).table.check ≡ None → IfOk result (λ answer. PlaysAlone (stage_of self.old).table (said call) (told answer) (stage_of self.new).table) }
     {
         match call {
             Call::Memory(lines) => self.set_memory(lines),

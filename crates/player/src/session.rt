@@ -3,7 +3,8 @@ ghost use Rattle.std.specs.Prelude.{IfOk};
 ghost use Rattle.std.specs.Fn.{FnReturnsAt};
 ghost use Rattle.script.specs.Calls.{call_in};
 ghost use Rattle.script.specs.Parts.{line_text, parts_of};
-ghost use Rattle.player.specs.Sessions.{Understood};
+ghost use Rattle.player.specs.Sessions.{Understood, LinePlayed};
+ghost use Rattle.player.specs.Stages.{stage_of};
 
 use crate::player::Player;
 use outlets::{EarliestDue, FirstInOutlet, Message, Outlet};
@@ -48,7 +49,7 @@ fn understood<F: Fn(&Call) -> bool>(
     }
 }
 
-// The runtime, the script and the closure go from function to function: as fields each method would ask the same of the closure.
+// The runtime, the script, the lines and the closure go from function to function: as fields each method would ask the same of the closure.
 
 /// Plays the call on a line, and writes its answer.
 fn play<O: Outlet, F: Fn(&Call) -> bool>(
@@ -58,6 +59,7 @@ fn play<O: Outlet, F: Fn(&Call) -> bool>(
     understands: &F,
 ) -> io::Result<()>
     requires { F.IsAlwaysCallable understands.now }
+    ensures { IfOk result (λ _. LinePlayed O.Outlet.meaning (λ call is. FnReturnsAt F.Fn understands.now call is) (call_in (parts_of (line_text line.now.bytes.items))) (stage_of player.old) (stage_of player.new)) }
 {
     match understood(rt.alloc(), line, understands)? {
         Some(call) => rt.println(player.play(call)?),
@@ -92,16 +94,18 @@ fn play_all<R: BufRead, O: Outlet, F: Fn(&Call) -> bool>(
 }
 
 /// Plays a script over an outlet. The player is finished also where the script could not be played to its end.
+/// The chain memory has so many lines at first; for none no memory is taken.
 fn play_over<R: BufRead, O: Outlet + Drop, F: Fn(&Call) -> bool>(
     rt: &HostRuntime,
     script: &mut Script<R>,
     first: Option<Numbered>,
     outlet: O,
+    lines: usize,
     understands: &F,
 ) -> io::Result<()>
     requires { F.IsAlwaysCallable understands.now }
 {
-    let memory = vec![in rt.alloc(); Line::BLANK; LINES]?;
+    let memory = vec![in rt.alloc(); Line::BLANK; lines]?;
     let mut player = Player::new(rt.alloc(), outlet, memory);
     let played = play_all(rt, script, first, &mut player, understands);
     let ended = match player.finish() {
@@ -117,6 +121,7 @@ fn play_chosen<R: BufRead, F: Fn(&Call) -> bool>(
     script: &mut Script<R>,
     first: Option<Numbered>,
     chosen: Choice,
+    lines: usize,
     understands: &F,
 ) -> io::Result<()>
     requires { F.IsAlwaysCallable understands.now }
@@ -125,17 +130,35 @@ fn play_chosen<R: BufRead, F: Fn(&Call) -> bool>(
     let slots = slots.as_mut_slice();
     match chosen.kind {
         OutletKind::FirstIn => {
-            play_over(rt, script, first, FirstInOutlet::new(slots), understands)
+            play_over(
+                rt,
+                script,
+                first,
+                FirstInOutlet::new(slots),
+                lines,
+                understands,
+            )
         }
         OutletKind::EarliestDue => {
-            play_over(rt, script, first, EarliestDue::new(slots), understands)
+            play_over(
+                rt,
+                script,
+                first,
+                EarliestDue::new(slots),
+                lines,
+                understands,
+            )
         }
     }
 }
 
 /// Plays the script on the standard input, a call on each line, and writes a line for each call. A call that is not understood is told
-/// as a line that says no call.
-pub fn rehearse_some<F: Fn(&Call) -> bool>(rt: &HostRuntime, understands: F) -> io::Result<()>
+/// as a line that says no call. The chain memory has so many lines at first; a script of which no call that uses it is understood needs none.
+pub fn rehearse_with<F: Fn(&Call) -> bool>(
+    rt: &HostRuntime,
+    lines: usize,
+    understands: F,
+) -> io::Result<()>
     requires { F.IsAlwaysCallable understands }
 {
     let mut script = Script::new(BufReader::new(rt.alloc(), rt.stdin())?);
@@ -145,10 +168,17 @@ pub fn rehearse_some<F: Fn(&Call) -> bool>(rt: &HostRuntime, understands: F) -> 
     match chosen_by(first.text()) {
         Some(chosen) => {
             rt.println(chosen)?;
-            play_chosen(rt, &mut script, None, chosen, &understands)
+            play_chosen(rt, &mut script, None, chosen, lines, &understands)
         }
-        None => play_chosen(rt, &mut script, Some(first), PLAIN, &understands),
+        None => play_chosen(rt, &mut script, Some(first), PLAIN, lines, &understands),
     }
+}
+
+/// The same, with the lines of chain memory that every chain fits.
+pub fn rehearse_some<F: Fn(&Call) -> bool>(rt: &HostRuntime, understands: F) -> io::Result<()>
+    requires { F.IsAlwaysCallable understands }
+{
+    rehearse_with(rt, LINES, understands)
 }
 
 /// Plays the script on the standard input, a call on each line, and writes a line for each call.
