@@ -8,7 +8,7 @@ use words::{Alternatives, Body, Exit, Node};
 pub fn node_at(nodes: &[Option<Node>], place: u16) -> Option<Node>
     ensures { result ≡ node_at nodes.now place }
 {
-    nodes.get(place as usize).copied().flatten()
+    *nodes.get(place as usize)?
 }
 
 /// The next of a message or a flow.
