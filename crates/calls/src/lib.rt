@@ -22,3 +22,4 @@ pub use permit::{Permit, Refused};
 pub use starting::start;
 pub use steps::Step;
 pub use walking::{step, take};
+pub use words::Reason;

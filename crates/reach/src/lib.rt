@@ -18,3 +18,4 @@ pub use line::{Letter, Line};
 pub use source::Source;
 pub use verdict::{in_reach, into_pattern, onto_empty, to_place};
 pub use view::View;
+pub use words::Reason;

@@ -10,3 +10,4 @@ mod state;
 pub use changes::in_pattern;
 pub use fault::Fault;
 pub use state::{Rows, Table, rows_in};
+pub use words::Reason;
