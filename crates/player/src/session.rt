@@ -50,6 +50,7 @@ fn understood<F: Fn(&Call) -> bool>(
 }
 
 // The runtime, the script, the lines and the closure go from function to function: as fields each method would ask the same of the closure.
+// Each call names the closure's type `F`, so that no closure but the one that came can be handed on.
 
 /// Plays the call on a line, and writes its answer.
 fn play<O: Outlet, F: Fn(&Call) -> bool>(
@@ -81,12 +82,12 @@ fn play_all<R: BufRead, O: Outlet, F: Fn(&Call) -> bool>(
     requires { F.IsAlwaysCallable understands.now }
 {
     if let Some(line) = first {
-        play(rt, player, &line, understands)?;
+        play::<O, F>(rt, player, &line, understands)?;
     }
     // a reader of input has no end that a measure could count down to
     for _ in 0..u64::MAX {
         match script.call_line(rt.alloc())? {
-            Some(line) => play(rt, player, &line, understands)?,
+            Some(line) => play::<O, F>(rt, player, &line, understands)?,
             None => return Ok(()),
         }
     }
@@ -107,7 +108,7 @@ fn play_over<R: BufRead, O: Outlet + Drop, F: Fn(&Call) -> bool>(
 {
     let memory = vec![in rt.alloc(); Line::BLANK; lines]?;
     let mut player = Player::new(rt.alloc(), outlet, memory);
-    let played = play_all(rt, script, first, &mut player, understands);
+    let played = play_all::<R, O, F>(rt, script, first, &mut player, understands);
     let ended = match player.finish() {
         Some(answer) => rt.println(answer),
         None => Ok(()),
@@ -130,7 +131,7 @@ fn play_chosen<R: BufRead, F: Fn(&Call) -> bool>(
     let slots = slots.as_mut_slice();
     match chosen.kind {
         OutletKind::FirstIn => {
-            play_over(
+            play_over::<R, _, F>(
                 rt,
                 script,
                 first,
@@ -140,7 +141,7 @@ fn play_chosen<R: BufRead, F: Fn(&Call) -> bool>(
             )
         }
         OutletKind::EarliestDue => {
-            play_over(
+            play_over::<R, _, F>(
                 rt,
                 script,
                 first,
@@ -153,7 +154,7 @@ fn play_chosen<R: BufRead, F: Fn(&Call) -> bool>(
 }
 
 /// Plays the script on the standard input, a call on each line, and writes a line for each call. A call that is not understood is told
-/// as a line that says no call. The chain memory has so many lines at first; a script of which no call that uses it is understood needs none.
+/// as a line that says no call. The chain memory has so many lines at first; it needs none where no call that uses it is understood.
 pub fn rehearse_with<F: Fn(&Call) -> bool>(
     rt: &HostRuntime,
     lines: usize,
@@ -168,17 +169,17 @@ pub fn rehearse_with<F: Fn(&Call) -> bool>(
     match chosen_by(first.text()) {
         Some(chosen) => {
             rt.println(chosen)?;
-            play_chosen(rt, &mut script, None, chosen, lines, &understands)
+            play_chosen::<_, F>(rt, &mut script, None, chosen, lines, &understands)
         }
-        None => play_chosen(rt, &mut script, Some(first), PLAIN, lines, &understands),
+        None => play_chosen::<_, F>(rt, &mut script, Some(first), PLAIN, lines, &understands),
     }
 }
 
-/// The same, with the lines of chain memory that every chain fits.
+/// Plays the script as `rehearse_with` does, with as many lines of chain memory as the longest chain has.
 pub fn rehearse_some<F: Fn(&Call) -> bool>(rt: &HostRuntime, understands: F) -> io::Result<()>
     requires { F.IsAlwaysCallable understands }
 {
-    rehearse_with(rt, LINES, understands)
+    rehearse_with::<F>(rt, LINES, understands)
 }
 
 /// Plays the script on the standard input, a call on each line, and writes a line for each call.

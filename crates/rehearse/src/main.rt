@@ -29,7 +29,7 @@ fn rehearse<F: Fn(&Call) -> bool>(rt: &HostRuntime, is_made: F) -> io::Result<()
     requires callable { F.IsAlwaysCallable is_made }
     requires exact { (call : Call) (is : Bool) → FnReturnsAt F.Fn is_made call is → is ≡ made (said call) }
 {
-    player::rehearse_with(rt, LINES, is_made)
+    player::rehearse_with::<F>(rt, LINES, is_made)
 }
 
 fn main(rt: HostRuntime) -> io::Result<()> {
