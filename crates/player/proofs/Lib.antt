@@ -1,4 +1,5 @@
 pub mod Ending
 pub mod Keeping
+pub mod Sessions
 pub mod Spending
 pub mod Written

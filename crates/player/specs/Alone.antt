@@ -1,5 +1,5 @@
 -- What the calls that work on the table alone do while no check is open.
-use Rattle.std.specs.Prelude.{◌≡◌, ℕ, List, None, Result}
+use Rattle.std.specs.Prelude.{◌≡◌, ℕ, Bool, true, false, List, None, Result}
 use Rattle.table.specs.declared.fault.Fault.{Fault}
 use Rattle.table.specs.declared.state.Table.{Table}
 use Rattle.table.specs.Loading.{Loads}
@@ -7,6 +7,25 @@ use Rattle.calls.specs.Calls.{carried}
 use Rattle.script.specs.Calls.{Said, memory, load, write, start, hold, resume, abort, command, check, remove, release, step, take, lane, reach, row}
 use Rattle.player.specs.Playing.{load_told}
 use Rattle.player.specs.Told.{Told}
+
+-- the calls that work on the table alone: loads, writes and takes, and what is asked after lanes and rows
+abbrev pub on_table : Said → Bool
+on_table (memory lines) = false
+on_table (load words) = true
+on_table (write room) = true
+on_table (start number place tick) = false
+on_table (hold number) = false
+on_table (resume number) = false
+on_table (abort number) = false
+on_table (command block word) = false
+on_table (check pattern) = false
+on_table remove = false
+on_table release = false
+on_table (step number) = false
+on_table take = true
+on_table (lane number) = true
+on_table (reach place) = false
+on_table (row block) = true
 
 -- the table's own load, which is told as it answers; and no check is open after it
 abbrev pub LoadsAlone : Table → List ℕ → Told → Table → Type 0

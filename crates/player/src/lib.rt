@@ -16,4 +16,4 @@ mod walking;
 
 pub use answer::Answer;
 pub use player::Player;
-pub use session::{rehearse, rehearse_some, rehearse_with};
+pub use session::{rehearse, rehearse_some};

@@ -1,8 +1,8 @@
 //! A player makes the calls of a script.
-ghost use Rattle.std.specs.Prelude.{◌≡◌, None, IfOk};
+ghost use Rattle.std.specs.Prelude.{◌≡◌, true, None, IfOk};
 ghost use Rattle.table.specs.Tables.{cleared};
 ghost use Rattle.script.specs.Calls.{said};
-ghost use Rattle.player.specs.Alone.{PlaysAlone};
+ghost use Rattle.player.specs.Alone.{on_table, PlaysAlone};
 ghost use Rattle.player.specs.Playing.{Played};
 ghost use Rattle.player.specs.Stages.{stage_of};
 ghost use Rattle.player.specs.Told.{told};
@@ -32,6 +32,7 @@ impl<O: Outlet> Player<O> {
     pub fn play(&mut self, call: Call) -> Result<Answer, AllocError>
         ensures exact { Played O.Outlet.meaning (stage_of self.old) (said call) result (stage_of self.new) }
         ensures alone { (stage_of self.old).table.check ≡ None → IfOk result (λ answer. PlaysAlone (stage_of self.old).table (said call) (told answer) (stage_of self.new).table) }
+        ensures quiet { on_table (said call) ≡ true → (stage_of self.old).table.check ≡ None → (stage_of self.new).table.check ≡ None }
     {
         match call {
             Call::Memory(lines) => self.set_memory(lines),

@@ -1,9 +1,9 @@
 //! A session: a script that is played to its end.
-ghost use Rattle.std.specs.Prelude.{IfOk};
+ghost use Rattle.std.specs.Prelude.{◌≡◌, IfOk};
 ghost use Rattle.std.specs.Fn.{FnReturnsAt};
 ghost use Rattle.script.specs.Calls.{call_in};
 ghost use Rattle.script.specs.Parts.{line_text, parts_of};
-ghost use Rattle.player.specs.Sessions.{Understood, LinePlayed};
+ghost use Rattle.player.specs.Sessions.{Understood, Begins, Quiet, LinePlayed};
 ghost use Rattle.player.specs.Stages.{stage_of};
 
 use crate::player::Player;
@@ -14,8 +14,8 @@ use std::alloc::{AllocError, Global};
 use std::io;
 use std::io::{BufRead, BufReader};
 
-/// How many lines the chain memory has at first.
-const LINES: usize = 512;
+/// How many lines the longest chain has.
+const LINES: u32 = 512;
 
 /// The outlet of a script that chooses none.
 const PLAIN: Choice = Choice {
@@ -52,6 +52,23 @@ fn understood<F: Fn(&Call) -> bool>(
 // The runtime, the script, the lines and the closure go from function to function: as fields each method would ask the same of the closure.
 // Each call names the closure's type `F`, so that no closure but the one that came can be handed on.
 
+/// A player at the beginning of a session. Its chain memory has as many lines as the longest chain, if a line that asks for so many is
+/// understood. Otherwise it has none, and no memory is taken for it.
+fn begin<O: Outlet + Drop, F: Fn(&Call) -> bool>(
+    heap: Global,
+    outlet: O,
+    understands: &F,
+) -> Result<Player<O>, AllocError>
+    requires { F.IsAlwaysCallable understands.now }
+    ensures begins { IfOk result (λ player. Begins (λ call is. FnReturnsAt F.Fn understands.now call is) (stage_of player)) }
+    ensures outlet { IfOk result (λ player. (stage_of player).outlet ≡ outlet) }
+{
+    let asked = Call::Memory(LINES);
+    let lines = if understands(&asked) { LINES } else { 0 };
+    let memory = vec![in heap; Line::BLANK; lines as usize]?;
+    Ok(Player::new(heap, outlet, memory))
+}
+
 /// Plays the call on a line, and writes its answer.
 fn play<O: Outlet, F: Fn(&Call) -> bool>(
     rt: &HostRuntime,
@@ -59,8 +76,10 @@ fn play<O: Outlet, F: Fn(&Call) -> bool>(
     line: &Numbered,
     understands: &F,
 ) -> io::Result<()>
-    requires { F.IsAlwaysCallable understands.now }
-    ensures { IfOk result (λ _. LinePlayed O.Outlet.meaning (λ call is. FnReturnsAt F.Fn understands.now call is) (call_in (parts_of (line_text line.now.bytes.items))) (stage_of player.old) (stage_of player.new)) }
+    requires callable { F.IsAlwaysCallable understands.now }
+    requires quiet { Quiet (λ call is. FnReturnsAt F.Fn understands.now call is) (stage_of player.old) }
+    ensures quiet { Quiet (λ call is. FnReturnsAt F.Fn understands.now call is) (stage_of player.new) }
+    ensures line { IfOk result (λ _. LinePlayed O.Outlet.meaning (λ call is. FnReturnsAt F.Fn understands.now call is) (call_in (parts_of (line_text line.now.bytes.items))) (stage_of player.old) (stage_of player.new)) }
 {
     match understood(rt.alloc(), line, understands)? {
         Some(call) => rt.println(player.play(call)?),
@@ -71,7 +90,7 @@ fn play<O: Outlet, F: Fn(&Call) -> bool>(
     }
 }
 
-/// Plays a script: its first call, if that did not choose the outlet, and then the rest.
+/// Plays a script from the beginning of a session on: its first call, if that did not choose the outlet, and then the rest.
 fn play_all<R: BufRead, O: Outlet, F: Fn(&Call) -> bool>(
     rt: &HostRuntime,
     script: &mut Script<R>,
@@ -79,7 +98,9 @@ fn play_all<R: BufRead, O: Outlet, F: Fn(&Call) -> bool>(
     player: &mut Player<O>,
     understands: &F,
 ) -> io::Result<()>
-    requires { F.IsAlwaysCallable understands.now }
+    requires callable { F.IsAlwaysCallable understands.now }
+    requires begun { Begins (λ call is. FnReturnsAt F.Fn understands.now call is) (stage_of player.old) }
+    ensures quiet { Quiet (λ call is. FnReturnsAt F.Fn understands.now call is) (stage_of player.new) }
 {
     if let Some(line) = first {
         play::<O, F>(rt, player, &line, understands)?;
@@ -95,19 +116,16 @@ fn play_all<R: BufRead, O: Outlet, F: Fn(&Call) -> bool>(
 }
 
 /// Plays a script over an outlet. The player is finished also where the script could not be played to its end.
-/// The chain memory has so many lines at first; for none no memory is taken.
 fn play_over<R: BufRead, O: Outlet + Drop, F: Fn(&Call) -> bool>(
     rt: &HostRuntime,
     script: &mut Script<R>,
     first: Option<Numbered>,
     outlet: O,
-    lines: usize,
     understands: &F,
 ) -> io::Result<()>
     requires { F.IsAlwaysCallable understands.now }
 {
-    let memory = vec![in rt.alloc(); Line::BLANK; lines]?;
-    let mut player = Player::new(rt.alloc(), outlet, memory);
+    let mut player = begin::<O, F>(rt.alloc(), outlet, understands)?;
     let played = play_all::<R, O, F>(rt, script, first, &mut player, understands);
     let ended = match player.finish() {
         Some(answer) => rt.println(answer),
@@ -122,7 +140,6 @@ fn play_chosen<R: BufRead, F: Fn(&Call) -> bool>(
     script: &mut Script<R>,
     first: Option<Numbered>,
     chosen: Choice,
-    lines: usize,
     understands: &F,
 ) -> io::Result<()>
     requires { F.IsAlwaysCallable understands.now }
@@ -131,35 +148,17 @@ fn play_chosen<R: BufRead, F: Fn(&Call) -> bool>(
     let slots = slots.as_mut_slice();
     match chosen.kind {
         OutletKind::FirstIn => {
-            play_over::<R, _, F>(
-                rt,
-                script,
-                first,
-                FirstInOutlet::new(slots),
-                lines,
-                understands,
-            )
+            play_over::<R, _, F>(rt, script, first, FirstInOutlet::new(slots), understands)
         }
         OutletKind::EarliestDue => {
-            play_over::<R, _, F>(
-                rt,
-                script,
-                first,
-                EarliestDue::new(slots),
-                lines,
-                understands,
-            )
+            play_over::<R, _, F>(rt, script, first, EarliestDue::new(slots), understands)
         }
     }
 }
 
 /// Plays the script on the standard input, a call on each line, and writes a line for each call. A call that is not understood is told
-/// as a line that says no call. The chain memory has so many lines at first; it needs none where no call that uses it is understood.
-pub fn rehearse_with<F: Fn(&Call) -> bool>(
-    rt: &HostRuntime,
-    lines: usize,
-    understands: F,
-) -> io::Result<()>
+/// as a line that says no call. The chain memory has 512 lines at first if the line `memory 512` is understood, and none otherwise.
+pub fn rehearse_some<F: Fn(&Call) -> bool>(rt: &HostRuntime, understands: F) -> io::Result<()>
     requires { F.IsAlwaysCallable understands }
 {
     let mut script = Script::new(BufReader::new(rt.alloc(), rt.stdin())?);
@@ -169,17 +168,10 @@ pub fn rehearse_with<F: Fn(&Call) -> bool>(
     match chosen_by(first.text()) {
         Some(chosen) => {
             rt.println(chosen)?;
-            play_chosen::<_, F>(rt, &mut script, None, chosen, lines, &understands)
+            play_chosen::<_, F>(rt, &mut script, None, chosen, &understands)
         }
-        None => play_chosen::<_, F>(rt, &mut script, Some(first), PLAIN, lines, &understands),
+        None => play_chosen::<_, F>(rt, &mut script, Some(first), PLAIN, &understands),
     }
-}
-
-/// Plays the script as `rehearse_with` does, with as many lines of chain memory as the longest chain has.
-pub fn rehearse_some<F: Fn(&Call) -> bool>(rt: &HostRuntime, understands: F) -> io::Result<()>
-    requires { F.IsAlwaysCallable understands }
-{
-    rehearse_with::<F>(rt, LINES, understands)
 }
 
 /// Plays the script on the standard input, a call on each line, and writes a line for each call.

@@ -1,22 +1,13 @@
 -- The calls that are made here.
-use Rattle.std.specs.Prelude.{Bool, true, false}
-use Rattle.script.specs.Calls.{Said, memory, load, write, start, hold, resume, abort, command, check, remove, release, step, take, lane, reach, row}
+use Rattle.std.specs.Prelude.{◌≡◌, Bool}
+use Rattle.script.specs.declared.call.Call.{Call}
+use Rattle.script.specs.Calls.{Said, said}
+use Rattle.player.specs.Alone.{on_table}
 
--- loads, writes and takes, and what is asked after lanes and rows: none of them opens a check
+-- those that work on the table alone: loads, writes and takes, and what is asked after lanes and rows
 abbrev pub made : Said → Bool
-made (memory lines) = false
-made (load words) = true
-made (write room) = true
-made (start number place tick) = false
-made (hold number) = false
-made (resume number) = false
-made (abort number) = false
-made (command block word) = false
-made (check pattern) = false
-made remove = false
-made release = false
-made (step number) = false
-made take = true
-made (lane number) = true
-made (reach place) = false
-made (row block) = true
+made call = on_table call
+
+-- exactly the calls that are made here are understood
+abbrev pub Exact : (Call → Bool → Type 0) → Type 0
+Exact Understands = (call : Call) (is : Bool) → Understands call is → is ≡ made (said call)

@@ -2,11 +2,10 @@
 //! after lanes and rows; every other call is told as a line that says no call.
 #![tactic(auto)]
 
-ghost use Rattle.std.specs.Prelude.{◌≡◌, Bool};
+ghost use Rattle.std.specs.Prelude.{◌≡◌};
 ghost use Rattle.std.specs.Fn.{FnReturnsAt};
-ghost use Rattle.script.specs.declared.call.Call.{Call};
 ghost use Rattle.script.specs.Calls.{said};
-ghost use Rattle.rehearse.specs.Made.{made};
+ghost use Rattle.rehearse.specs.Made.{made, Exact};
 
 use script::Call;
 use std::io;
@@ -21,15 +20,12 @@ fn is_made(call: &Call) -> bool
     )
 }
 
-/// How many lines the chain memory has: none, since no call that uses it is made.
-const LINES: usize = 0;
-
 /// Plays the script. The closure says which calls are made: exactly those that are made here.
 fn rehearse<F: Fn(&Call) -> bool>(rt: &HostRuntime, is_made: F) -> io::Result<()>
     requires callable { F.IsAlwaysCallable is_made }
-    requires exact { (call : Call) (is : Bool) → FnReturnsAt F.Fn is_made call is → is ≡ made (said call) }
+    requires exact { Exact (λ call is. FnReturnsAt F.Fn is_made call is) }
 {
-    player::rehearse_with::<F>(rt, LINES, is_made)
+    player::rehearse_some::<F>(rt, is_made)
 }
 
 fn main(rt: HostRuntime) -> io::Result<()> {
