@@ -1,4 +1,4 @@
--- What the calls that work on the table alone do while no check is open.
+-- The simple calls, and what they do while no check is open.
 use Rattle.std.specs.Prelude.{◌≡◌, ℕ, Bool, true, false, List, None, Result}
 use Rattle.table.specs.declared.fault.Fault.{Fault}
 use Rattle.table.specs.declared.state.Table.{Table}
@@ -8,24 +8,24 @@ use Rattle.script.specs.Calls.{Said, memory, load, write, start, hold, resume, a
 use Rattle.player.specs.Playing.{load_told}
 use Rattle.player.specs.Told.{Told}
 
--- the calls that work on the table alone: loads, writes and takes, and what is asked after lanes and rows
-abbrev pub on_table : Said → Bool
-on_table (memory lines) = false
-on_table (load words) = true
-on_table (write room) = true
-on_table (start number place tick) = false
-on_table (hold number) = false
-on_table (resume number) = false
-on_table (abort number) = false
-on_table (command block word) = false
-on_table (check pattern) = false
-on_table remove = false
-on_table release = false
-on_table (step number) = false
-on_table take = true
-on_table (lane number) = true
-on_table (reach place) = false
-on_table (row block) = true
+-- loads, writes and takes, and what is asked after lanes and rows: calls that move no lane, give no order, need no permit and use no chain memory
+abbrev pub simple : Said → Bool
+simple (memory lines) = false
+simple (load words) = true
+simple (write room) = true
+simple (start number place tick) = false
+simple (hold number) = false
+simple (resume number) = false
+simple (abort number) = false
+simple (command block word) = false
+simple (check pattern) = false
+simple remove = false
+simple release = false
+simple (step number) = false
+simple take = true
+simple (lane number) = true
+simple (reach place) = false
+simple (row block) = true
 
 -- the table's own load, which is told as it answers; and no check is open after it
 abbrev pub LoadsAlone : Table → List ℕ → Told → Table → Type 0

@@ -2,7 +2,7 @@
 ghost use Rattle.std.specs.Prelude.{◌≡◌, true, None, IfOk};
 ghost use Rattle.table.specs.Tables.{cleared};
 ghost use Rattle.script.specs.Calls.{said};
-ghost use Rattle.player.specs.Alone.{on_table, PlaysAlone};
+ghost use Rattle.player.specs.Alone.{simple, PlaysAlone};
 ghost use Rattle.player.specs.Playing.{Played};
 ghost use Rattle.player.specs.Stages.{stage_of};
 ghost use Rattle.player.specs.Told.{told};
@@ -28,11 +28,12 @@ impl<O: Outlet> Player<O> {
         }
     }
 
-    /// Makes a call. While no check is open, a load is the table's own, and none is opened by what works on the table alone.
+    /// Makes a call. While no check is open, a load is the table's own, and no simple call opens one; nor does such a call change the chain
+    /// memory.
     pub fn play(&mut self, call: Call) -> Result<Answer, AllocError>
         ensures exact { Played O.Outlet.meaning (stage_of self.old) (said call) result (stage_of self.new) }
         ensures alone { (stage_of self.old).table.check ≡ None → IfOk result (λ answer. PlaysAlone (stage_of self.old).table (said call) (told answer) (stage_of self.new).table) }
-        ensures quiet { on_table (said call) ≡ true → (stage_of self.old).table.check ≡ None → (stage_of self.new).table.check ≡ None }
+        ensures simple { simple (said call) ≡ true → (stage_of self.old).table.check ≡ None → ((stage_of self.new).table.check ≡ None) × ((stage_of self.new).memory ≡ (stage_of self.old).memory) }
     {
         match call {
             Call::Memory(lines) => self.set_memory(lines),

@@ -115,6 +115,20 @@ fn play_all<R: BufRead, O: Outlet, F: Fn(&Call) -> bool>(
     Ok(())
 }
 
+/// Ends a session: finishes the player, and writes what that tells. Of the closure only the contract speaks.
+fn end<O: Outlet + Drop, F: Fn(&Call) -> bool>(
+    rt: &HostRuntime,
+    player: Player<O>,
+    _understands: &F,
+) -> io::Result<()>
+    requires { Quiet (λ call is. FnReturnsAt F.Fn _understands.now call is) (stage_of player) }
+{
+    match player.finish() {
+        Some(answer) => rt.println(answer),
+        None => Ok(()),
+    }
+}
+
 /// Plays a script over an outlet. The player is finished also where the script could not be played to its end.
 fn play_over<R: BufRead, O: Outlet + Drop, F: Fn(&Call) -> bool>(
     rt: &HostRuntime,
@@ -127,10 +141,7 @@ fn play_over<R: BufRead, O: Outlet + Drop, F: Fn(&Call) -> bool>(
 {
     let mut player = begin::<O, F>(rt.alloc(), outlet, understands)?;
     let played = play_all::<R, O, F>(rt, script, first, &mut player, understands);
-    let ended = match player.finish() {
-        Some(answer) => rt.println(answer),
-        None => Ok(()),
-    };
+    let ended = end::<O, F>(rt, player, understands);
     played.and(ended)
 }
 

@@ -2,11 +2,11 @@
 use Rattle.std.specs.Prelude.{◌≡◌, Bool}
 use Rattle.script.specs.declared.call.Call.{Call}
 use Rattle.script.specs.Calls.{Said, said}
-use Rattle.player.specs.Alone.{on_table}
+use Rattle.player.specs.Alone.{simple}
 
--- those that work on the table alone: loads, writes and takes, and what is asked after lanes and rows
+-- the simple ones: loads, writes and takes, and what is asked after lanes and rows
 abbrev pub made : Said → Bool
-made call = on_table call
+made call = simple call
 
 -- exactly the calls that are made here are understood
 abbrev pub Exact : (Call → Bool → Type 0) → Type 0
