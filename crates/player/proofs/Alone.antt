@@ -14,11 +14,11 @@ use Rattle.player.specs.Told.{Told}
 
 module _ (before after : Table) (words : List ℕ) where
   -- a load opens no check, and uses none up
-  check_kept : (found : Result ℕ Fault) → Loads before words found after → after.check ≡ before.check
-  check_kept (Ok count) l = ap (λ (t : Table). t.check) l.4
-  check_kept (Err (Words fault)) l = ap (λ (t : Table). t.check) l.1
-  check_kept (Err (Taken place)) l = ap (λ (t : Table). t.check) l.3
-  check_kept (Err (Flaw flaw)) l = ap (λ (t : Table). t.check) l.3
+  load_keeps_check : (found : Result ℕ Fault) → Loads before words found after → after.check ≡ before.check
+  load_keeps_check (Ok count) l = ap (λ (t : Table). t.check) l.4
+  load_keeps_check (Err (Words fault)) l = ap (λ (t : Table). t.check) l.1
+  load_keeps_check (Err (Taken place)) l = ap (λ (t : Table). t.check) l.3
+  load_keeps_check (Err (Flaw flaw)) l = ap (λ (t : Table). t.check) l.3
 
 module _ {O : Type 0} (meaning : Meaning O) (before after : Stage O) (told : Told) (none : before.table.check ≡ None) where
   -- what a player says of a call says this of one that is simple
@@ -26,7 +26,7 @@ module _ {O : Type 0} (meaning : Meaning O) (before after : Stage O) (told : Tol
   plays_alone (memory lines) p = tt
   plays_alone (load words) p =
       let own = subst (λ check. LoadsIf check before.table words p.0 after.table) none p.1 in
-      (own.0, own.1, p.2 ∙ ap load_told own.2, check_kept before.table after.table words own.0 own.1 ∙ none)
+      (own.0, own.1, p.2 ∙ ap load_told own.2, load_keeps_check before.table after.table words own.0 own.1 ∙ none)
   plays_alone (write room) p = ap (λ (s : Stage O). s.table) p.1
   plays_alone (start number place tick) p = tt
   plays_alone (hold number) p = tt

@@ -1,11 +1,14 @@
 //! A session: a script that is played to its end.
-ghost use Rattle.std.specs.Prelude.{◌≡◌, IfOk};
+ghost use Rattle.std.specs.Prelude.{◌≡◌, None, IfOk};
 ghost use Rattle.std.specs.Fn.{FnReturnsAt};
+ghost use Rattle.words.specs.Format.{mapped};
 ghost use Rattle.script.specs.Calls.{call_in};
 ghost use Rattle.script.specs.Parts.{line_text, parts_of};
-ghost use Rattle.player.specs.Sessions.{Understood, Begins, Quiet, LinePlayed};
+ghost use Rattle.player.specs.Sessions.{Understood, OnlySimple, Begins, Quiet, LinePlayed};
 ghost use Rattle.player.specs.Stages.{stage_of};
+ghost use Rattle.player.specs.Told.{told};
 
+use crate::answer::Answer;
 use crate::player::Player;
 use outlets::{EarliestDue, FirstInOutlet, Message, Outlet};
 use reach::Line;
@@ -81,7 +84,7 @@ fn play<O: Outlet, F: Fn(&Call) -> bool>(
     ensures quiet { Quiet (λ call is. FnReturnsAt F.Fn understands.now call is) (stage_of player.new) }
     ensures line { IfOk result (λ _. LinePlayed O.Outlet.meaning (λ call is. FnReturnsAt F.Fn understands.now call is) (call_in (parts_of (line_text line.now.bytes.items))) (stage_of player.old) (stage_of player.new)) }
 {
-    match understood(rt.alloc(), line, understands)? {
+    match understood::<F>(rt.alloc(), line, understands)? {
         Some(call) => rt.println(player.play(call)?),
         None => {
             let number = line.number;
@@ -115,15 +118,15 @@ fn play_all<R: BufRead, O: Outlet, F: Fn(&Call) -> bool>(
     Ok(())
 }
 
-/// Ends a session: finishes the player, and writes what that tells. Of the closure only the contract speaks.
-fn end<O: Outlet + Drop, F: Fn(&Call) -> bool>(
+/// Writes what was told as the player was finished: nothing, where only simple calls are understood. Of the closure only the contract speaks.
+fn end<F: Fn(&Call) -> bool>(
     rt: &HostRuntime,
-    player: Player<O>,
+    last: Option<Answer>,
     _understands: &F,
 ) -> io::Result<()>
-    requires { Quiet (λ call is. FnReturnsAt F.Fn _understands.now call is) (stage_of player) }
+    requires quiet { OnlySimple (λ call is. FnReturnsAt F.Fn _understands.now call is) → mapped told last ≡ None }
 {
-    match player.finish() {
+    match last {
         Some(answer) => rt.println(answer),
         None => Ok(()),
     }
@@ -141,7 +144,7 @@ fn play_over<R: BufRead, O: Outlet + Drop, F: Fn(&Call) -> bool>(
 {
     let mut player = begin::<O, F>(rt.alloc(), outlet, understands)?;
     let played = play_all::<R, O, F>(rt, script, first, &mut player, understands);
-    let ended = end::<O, F>(rt, player, understands);
+    let ended = end::<F>(rt, player.finish(), understands);
     played.and(ended)
 }
 

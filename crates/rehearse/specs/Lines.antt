@@ -9,8 +9,8 @@ use Rattle.player.specs.Told.{Told}
 use Rattle.rehearse.specs.Made.{made}
 
 module _ {O : Type 0} (meaning : Meaning O) where
-  -- a call that is made leaves what a player says of it, and of the table what it does while no check is open: a load is the table's own.
-  -- One that is not made changes nothing.
+  -- of a call that is made: what a player says of it, and what it does to a table while no check is open (a load is the table's own);
+  -- one that is not made changes nothing
   abbrev pub Makes : Bool → Stage O → Said → Stage O → Type 0
   Makes true before call after = (it : Told) × Plays meaning before call it after × PlaysAlone before.table call it after.table
   Makes false before call after = after ≡ before
